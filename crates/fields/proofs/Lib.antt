@@ -1,0 +1,5 @@
+pub mod Options
+pub mod Numerals
+pub mod Cuts
+mod Fronts
+pub mod Rows
