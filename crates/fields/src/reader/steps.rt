@@ -8,6 +8,7 @@ ghost use Rattle.fields.specs.Law.{Written-is-read, Read-is-written};
 ghost use Rattle.fields.specs.Reader.{source, place as place-of, left, answer, placed, at-front, past, of-read, rest-of, Reads, Next};
 ghost use Rattle.fields.specs.Row.{number as number-shape, step};
 use crate::digits::numeral;
+ghost use Rattle.std.specs.Vec.{made};
 use crate::field::Field;
 use crate::field::Placed;
 use crate::field::WrongField;
@@ -55,6 +56,7 @@ impl<'a> Reader<'a> {
         ensures source { λ _. ⌜ source (now (self .exit)) ≡ source (now (self .entry)) ⌝ }
         ensures left { λ _. ⌜ left (now (self .exit)) ≡ rest-of (step (number-shape tag low high) (left (now (self .entry)))) ⌝ }
         ensures ahead { λ _. ⌜ place-of (now (self .entry)) ≤ place-of (now (self .exit)) ⌝ }
+        ensures range { λ r. ⌜ made r (λ n. (low ≤ n) × (n ≤ high)) ⌝ }
         ensures reads { λ r. ⌜ Reads (step (number-shape tag low high)) (λ n. n) (now (self .entry)) (now (self .exit)) r ⌝ }
     {
         let place = self.at;
