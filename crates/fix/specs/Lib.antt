@@ -4,4 +4,5 @@ pub mod Layout
 pub mod Message
 pub mod Refusal
 pub mod Step
+pub mod Writing
 pub mod Law

@@ -47,7 +47,13 @@ pub(crate) fn read_form(reader: &mut Reader<'_>) -> Result<Form, WrongField>
     let command = read_command(reader)?;
     let trailer = reader.place();
     let sum = read_check_sum(reader)?;
-    Ok(Form { count, command, sum, body, trailer })
+    Ok(Form {
+        count,
+        command,
+        sum,
+        body,
+        trailer,
+    })
 }
 
 // The kind, and the fields that it has.
@@ -73,7 +79,14 @@ fn read_new_order(reader: &mut Reader<'_>) -> Result<NewOrder, WrongField>
     let side = read_side(reader)?;
     let lots = reader.number(38, 1, 999_999)?;
     let price = reader.number(44, 1, 999_999)?;
-    Ok(NewOrder { member, number, order, side, lots, price })
+    Ok(NewOrder {
+        member,
+        number,
+        order,
+        side,
+        lots,
+        price,
+    })
 }
 
 fn read_cancel(reader: &mut Reader<'_>) -> Result<Cancel, WrongField>
@@ -84,7 +97,11 @@ fn read_cancel(reader: &mut Reader<'_>) -> Result<Cancel, WrongField>
     let member = reader.number(49, 1, 9_999)?;
     let number = reader.number(34, 1, 999_999_999)?;
     let order = reader.number(41, 1, 999_999_999)?;
-    Ok(Cancel { member, number, order })
+    Ok(Cancel {
+        member,
+        number,
+        order,
+    })
 }
 
 fn read_version(reader: &mut Reader<'_>) -> Result<(), WrongField>

@@ -31,7 +31,7 @@ formed c =
     let at = c .read-form .last .reader .at in
     let found = c .in-Continue-form .form in
     let is = at-start (λ l a. form (drop a l) ≡ right (form-of l found) (drop at l)) _ bs _ (new .source) (new .start)
-      (c .in-Continue-form .ensures tt .reads ∙ ap (λ l. right (form-of (c .new-reader .result .bytes .now) found) (drop at l)) (c .read-form .ensures .source)) in
+    (c .in-Continue-form .ensures tt .reads ∙ ap (λ l. right (form-of (c .new-reader .result .bytes .now) found) (drop at l)) (c .read-form .ensures .source)) in
     let same = ap length (c .read-form .ensures .source ∙ new .source) in
     let inside : at ≤ length bs = omega (arith, same, c .read-form .last .reader .inside) in
     first-formed bs _ at is inside

@@ -1,0 +1,18 @@
+use native.Mathlib.Omega.{arith}
+use Rattle.fix.proofs.Lengths.{body-length, render-length}
+use Rattle.fix.proofs.Values.{commands-are-valid}
+use Rattle.fix.proofs.Whole.{written-is-read, read-is-written, first-written-is-read, first-read-is-written}
+use Rattle.fix.proofs.laws.one_spelling.Needs as need
+
+pub returns : need.returns
+returns c = record {
+  back = written-is-read;
+  only = read-is-written;
+  first-back = λ c rest v. first-written-is-read c v rest;
+  first-only = first-read-is-written;
+  valid = commands-are-valid;
+  lengths = λ c v.
+      let size = body-length c v in
+      let is = render-length c v in
+      (omega arith, omega arith);
+}
