@@ -10,6 +10,7 @@ use Rattle.std.specs.shelf.Lists.{sum}
 use Rattle.std.proofs.shelf.Tests.{cases-bool, eqb-true, eq-eqb, cond-true, cond-false}
 use Rattle.std.proofs.shelf.Lists.{take-at}
 use Rattle.answers.specs.Answer.{Answer, answered, refused}
+use Rattle.fields.specs.Field.{front}
 use Rattle.fields.specs.Row.{Read, wrong, right, shown, shown-row}
 use Rattle.fields.proofs.Rows.{no}
 use Rattle.fix.specs.Command.{Command, new, cancel, Valid}
@@ -146,3 +147,8 @@ leading-answered bs (right f rest) c n is e =
 pub first-read-is-written : (bs : List ℕ) (c : Command) (n : ℕ) → parse-first bs ≡ answered (c, n) → (rest : List ℕ) × (bs ≡ render c ++ rest) × (n ≡ length (render c)) × Valid c
 unfolding parse-first
 first-read-is-written bs c n e = leading-answered bs (form bs) c n refl e
+
+-- nothing is no message
+pub first-of-nothing : parse-first [] ≡ refused 11 (0 ∷ [])
+unfolding parse-first front
+first-of-nothing = refl

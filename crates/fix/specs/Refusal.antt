@@ -1,7 +1,7 @@
 -- Refusals by their numbers and figures.
 use mathlib.Core.Bool.{Bool, cond, _&&_}
 use mathlib.Core.List.{List, [], _∷_}
-use Prim.Native.Nat.{ℕ}
+use Prim.Native.Nat.{ℕ, _≤_}
 use lib.Dec.{leb}
 use Rattle.answers.specs.Answer.{Answer, answered, refused}
 use Rattle.std.specs.declared.result.Result.{Result}
@@ -9,6 +9,7 @@ use Rattle.std.specs.declared.result.Result.the-variants.{Ok, Err}
 use Rattle.fix.specs.declared.command.Command as code
 use Rattle.fix.specs.declared.command.NewOrder as code-order
 use Rattle.fix.specs.declared.command.Cancel as code-cancel
+use Rattle.fix.specs.declared.reading.First.{First}
 use Rattle.fix.specs.declared.refusal.MessageRefusal.{MessageRefusal}
 use Rattle.fix.specs.declared.refusal.MessageRefusal.the-variants.{WrongField, WrongCount, WrongSum}
 use Rattle.fix.specs.declared.refusal.BufferTooShort.{BufferTooShort}
@@ -27,9 +28,19 @@ abbrev pub answer : Result code.Command MessageRefusal → Answer Command
 answer (Ok c) = answered (figures c)
 answer (Err e) = refusal e
 
-abbrev pub first-answer : Result (code.Command × ℕ) MessageRefusal → Answer (Command × ℕ)
-first-answer (Ok r) = answered (figures (r .0), r .1)
+abbrev pub first-answer : Result First MessageRefusal → Answer (Command × ℕ)
+first-answer (Ok r) = answered (figures (r .command), r .length)
 first-answer (Err e) = refusal e
+
+-- a message that was taken has 42 bytes or more, and lies within these bytes; so does a place that is refused
+abbrev pub place-of : MessageRefusal → ℕ
+place-of (WrongField place) = place
+place-of WrongCount = 0
+place-of WrongSum = 0
+
+abbrev pub Inside : ℕ → Result First MessageRefusal → Type 0
+Inside size (Ok r) = (42 ≤ r .length) × (r .length ≤ size)
+Inside size (Err e) = place-of e ≤ size
 
 -- 91 with the length of the message: the buffer is shorter than that
 abbrev pub written-answer : Result ℕ BufferTooShort → Answer ℕ

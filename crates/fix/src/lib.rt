@@ -22,6 +22,7 @@ pub use command::Command;
 pub use command::NewOrder;
 pub use command::Side;
 pub use laws::one_spelling;
+pub use reading::First;
 pub use reading::read;
 pub use reading::read_first;
 pub use refusal::BufferTooShort;

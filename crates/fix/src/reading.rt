@@ -2,8 +2,10 @@
 ghost use mathlib.Core.Path.{_≡_};
 ghost use Prim.Native.Nat.{_%_};
 ghost use Rattle.fix.specs.Message.{checked, parse, parse-first};
-ghost use Rattle.fix.specs.Refusal.{answer, first-answer};
+ghost use Rattle.fix.specs.Refusal.{answer, first-answer, place-of, Inside};
+ghost use lib.ListN.{length};
 ghost use Rattle.fix.specs.Step.{form-of, Ordered};
+ghost use Rattle.std.specs.Vec.{refused};
 ghost use Rattle.std.specs.shelf.Lists.{sum};
 use crate::command::Command;
 use crate::layout::Form;
@@ -25,20 +27,29 @@ pub fn read(bytes: &[u8]) -> Result<Command, MessageRefusal>
     check(bytes, &form)
 }
 
-// The command of the first message, and how many bytes that takes; what follows is no fault of it.
-pub fn read_first(bytes: &[u8]) -> Result<(Command, usize), MessageRefusal>
+// The first message of a run of bytes: its command, and how many bytes it takes.
+#[derive(Clone, Copy)]
+pub struct First {
+    pub command: Command,
+    pub length: usize,
+}
+
+// The first message; what follows it is no fault of it.
+pub fn read_first(bytes: &[u8]) -> Result<First, MessageRefusal>
     ensures answer { λ r. ⌜ first-answer r ≡ parse-first (now (bytes .entry)) ⌝ }
+    ensures inside { λ r. ⌜ Inside (length (now (bytes .entry))) r ⌝ }
 {
     let mut reader = Reader::new(bytes);
     let form = read_form(&mut reader)?;
     let command = check(bytes, &form)?;
-    Ok((command, reader.place()))
+    Ok(First { command, length: reader.place() })
 }
 
 // Tests the count and the sum.
 fn check(bytes: &[u8], form: &Form) -> Result<Command, MessageRefusal>
     requires ordered { ⌜ Ordered (now bytes) (now form) ⌝ }
-    ensures { λ r. ⌜ answer r ≡ checked (now (bytes .entry)) (form-of (now (bytes .entry)) (now (form .entry))) ⌝ }
+    ensures answer { λ r. ⌜ answer r ≡ checked (now (bytes .entry)) (form-of (now (bytes .entry)) (now (form .entry))) ⌝ }
+    ensures placeless { λ r. ⌜ refused r (λ e. place-of e ≡ 0) ⌝ }
 {
     if form.count as usize != form.trailer - form.body {
         return Err(MessageRefusal::WrongCount);

@@ -39,4 +39,4 @@ returns-then-place-bytes c =
 pub returns : need.returns
 returns c =
     let at = c .place-place .ensures .value in
-    record { answer = c .check .ensures ∙ sym (parse-all (c .args .bytes .now) _ _ (formed (need.at·returns c .In-Continue-form)) (omega (arith, at, c .if-place-bytes .left))) }
+    record { answer = c .check .ensures .answer ∙ sym (parse-all (c .args .bytes .now) _ _ (formed (need.at·returns c .In-Continue-form)) (omega (arith, at, c .if-place-bytes .left))) }

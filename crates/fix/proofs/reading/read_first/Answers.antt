@@ -1,17 +1,19 @@
 use mathlib.Core.Path.{_≡_, refl, sym, ap, _∙_}
 use Prim.Native.Nat.{ℕ, _≤_}
 use native.Mathlib.Omega.{arith}
-use lib.ListN.{length, drop}
+use lib.ListN.{length, drop, length-append}
 use Rattle.std.proofs.shelf.Results.{err-from-errBy}
 use Rattle.answers.specs.Answer.{answered}
 use Rattle.fields.specs.Row.{wrong, right}
 use Rattle.fix.specs.declared.refusal.MessageRefusal.{MessageRefusal}
 use Rattle.fix.specs.declared.refusal.MessageRefusal.the-variants.{WrongField, WrongCount, WrongSum}
 use Rattle.fix.specs.Command.{figures}
-use Rattle.fix.specs.Message.{form, checked, with-length, parse-first}
+use Rattle.fix.specs.Message.{form, checked, with-length, parse-first, render}
 use Rattle.fix.specs.Refusal.{refusal}
 use Rattle.fix.specs.Step.{form-of}
 use Rattle.fix.proofs.Checks.{at-start, first-wrong, first-formed}
+use Rattle.fix.proofs.Lengths.{body-length, render-length}
+use Rattle.fix.proofs.Whole.{first-read-is-written}
 use Rattle.fix.proofs.reading.read_first.Needs as need
 use Rattle.fix.proofs.reading.read_first.Needs.{In-Continue-form}
 
@@ -22,7 +24,10 @@ returns-in-Break-form c =
     let p = err-from-errBy (c .from-residual .result) (c .from-residual .ensures .1) in
     let new = c .new-reader .ensures in
     let f = at-start (λ l a. (form (drop a l) ≡ wrong (drop (w .place) l)) × (w .place ≤ length l)) _ bs _ (new .source) (new .start) (c .in-Break-form .ensures tt .reads) in
-    record { answer = rw (p .1) (ap refusal (p .2) ∙ sym (first-wrong bs _ (f .1) (f .0))) }
+    record {
+      answer = rw (p .1) (ap refusal (p .2) ∙ sym (first-wrong bs _ (f .1) (f .0)));
+      inside = rw (p .1) (rw (p .2) (f .1));
+    }
 
 formed : (c : In-Continue-form) → parse-first (c .args .bytes .now) ≡ with-length (c .read-form .last .reader .at) (checked (c .args .bytes .now) (form-of (c .args .bytes .now) (c .in-Continue-form .form)))
 formed c =
@@ -47,12 +52,20 @@ returns-in-Break-command c =
     let at = c .read-form .last .reader .at in
     let x = c .in-Break-command .field-0 .0 in
     let p = err-from-errBy (c .from-residual-in-Break-command .result) (c .from-residual-in-Break-command .ensures .1) in
-    record { answer = rw (p .1) (ap refusal (p .2) ∙ same-refusal at x ∙ ap (with-length at) (c .in-Break-command .ensures tt) ∙ sym (formed (need.at·returns-in-Break-command c .In-Continue-form))) }
+    record {
+      answer = rw (p .1) (ap refusal (p .2) ∙ same-refusal at x ∙ ap (with-length at) (c .in-Break-command .ensures tt .answer) ∙ sym (formed (need.at·returns-in-Break-command c .In-Continue-form)));
+      inside = rw (p .1) (rw (p .2) (omega (arith, c .in-Break-command .ensures tt .placeless)));
+    }
 
 pub returns : need.returns
 returns c =
+    let bs = c .args .bytes .now in
     let at = c .read-form .last .reader .at in
     let command = figures (c .in-Continue-command .command) in
-    record {
-      answer = ap (λ n. answered (command, n)) (c .place .ensures .value) ∙ ap (with-length at) (c .in-Continue-command .ensures tt) ∙ sym (formed (need.at·returns c .In-Continue-form));
-    }
+    let is : answered (command, c .place .result) ≡ parse-first bs =
+    ap (λ n. answered (command, n)) (c .place .ensures .value) ∙ ap (with-length at) (c .in-Continue-command .ensures tt .answer) ∙ sym (formed (need.at·returns c .In-Continue-form)) in
+    let taken = first-read-is-written bs command (c .place .result) (sym is) in
+    let size = body-length command (taken .3) in
+    let long = render-length command (taken .3) in
+    let whole = ap length (taken .1) ∙ length-append (render command) (taken .0) in
+    record { answer = is; inside = (omega (arith, taken .2), omega (arith, taken .2)) }

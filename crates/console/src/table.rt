@@ -1,0 +1,55 @@
+// Rows of the table of messages, and refusals in words.
+use crate::feed::Stopped;
+use fix::Command;
+use fix::MessageRefusal;
+use fix::Side;
+use std::fmt;
+
+pub const HEADER: &str = "number\tkind\tmember\torder\tside\tlots\tprice";
+
+// A command as a row under the header.
+#[derive(Clone, Copy)]
+pub struct Row(pub Command);
+
+pub impl fmt::Display for Row as RowDisplay {
+    fn fmt<W: fmt::Write>(&self, f: &mut fmt::Formatter<W>) -> fmt::Result {
+        match self.0 {
+            Command::New(o) => {
+                let side = side_name(o.side);
+                let number = o.number;
+                let member = o.member;
+                let order = o.order;
+                let lots = o.lots;
+                let price = o.price;
+                write!(f, "{number}\tnew\t{member}\t{order}\t{side}\t{lots}\t{price}")
+            }
+            Command::Cancel(o) => {
+                let number = o.number;
+                let member = o.member;
+                let order = o.order;
+                write!(f, "{number}\tcancel\t{member}\t{order}\t-\t-\t-")
+            }
+        }
+    }
+}
+
+fn side_name(side: Side) -> &'static str {
+    match side {
+        Side::Buy => "buy",
+        Side::Sell => "sell",
+    }
+}
+
+// The number of the refusal, what it means, the message's count and the byte.
+pub impl fmt::Display for Stopped as StoppedDisplay {
+    fn fmt<W: fmt::Write>(&self, f: &mut fmt::Formatter<W>) -> fmt::Result {
+        let words = match self.why {
+            MessageRefusal::WrongField { .. } => "11\ta field is wrong or missing",
+            MessageRefusal::WrongCount => "12\tBodyLength is not the count of bytes",
+            MessageRefusal::WrongSum => "13\tCheckSum is not the sum of bytes",
+        };
+        let message = self.message;
+        let byte = self.byte;
+        write!(f, "refused\t{words}\tmessage {message}\tbyte {byte}")
+    }
+}
