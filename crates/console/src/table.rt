@@ -21,7 +21,10 @@ pub impl fmt::Display for Row as RowDisplay {
                 let order = o.order;
                 let lots = o.lots;
                 let price = o.price;
-                write!(f, "{number}\tnew\t{member}\t{order}\t{side}\t{lots}\t{price}")
+                write!(
+                    f,
+                    "{number}\tnew\t{member}\t{order}\t{side}\t{lots}\t{price}"
+                )
             }
             Command::Cancel(o) => {
                 let number = o.number;

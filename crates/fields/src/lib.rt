@@ -13,3 +13,6 @@ pub use field::Placed;
 pub use field::WrongField;
 pub use reader::Reader;
 pub use reader::steps::every_spelling_is_read_back;
+
+#[cfg(test)]
+mod tests;

@@ -32,3 +32,6 @@ pub use refusal::WrongFieldRefused;
 pub use writing::LONGEST;
 pub use writing::length;
 pub use writing::write;
+
+#[cfg(test)]
+mod tests;

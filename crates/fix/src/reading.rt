@@ -42,7 +42,10 @@ pub fn read_first(bytes: &[u8]) -> Result<First, MessageRefusal>
     let mut reader = Reader::new(bytes);
     let form = read_form(&mut reader)?;
     let command = check(bytes, &form)?;
-    Ok(First { command, length: reader.place() })
+    Ok(First {
+        command,
+        length: reader.place(),
+    })
 }
 
 // Tests the count and the sum.

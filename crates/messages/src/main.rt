@@ -18,17 +18,18 @@ fn list(rt: &LibcRuntime) -> Result<(), AnyError> {
     println!(rt, "{HEADER}")?;
     let mut feed = Feed::new(&bytes);
     let mut orders = 0usize;
+    // each turn takes a message of at least a byte, or is the last
     for _ in 0..=bytes.len() {
-        match feed.next() {
-            None => break,
-            Some(Ok(command)) => {
+        let Some(next) = feed.next() else {
+            break;
+        };
+        match next {
+            Ok(command) => {
                 let row = Row(command);
                 println!(rt, "{row}")?;
-                if let Command::New(_) = command {
-                    orders = orders.saturating_add(1);
-                }
+                orders = orders.saturating_add(is_order(command));
             }
-            Some(Err(stopped)) => {
+            Err(stopped) => {
                 println!(rt, "{stopped}")?;
                 break;
             }
@@ -37,6 +38,16 @@ fn list(rt: &LibcRuntime) -> Result<(), AnyError> {
     let messages = feed.taken();
     let cancels = messages.saturating_sub(orders);
     let place = feed.place();
-    println!(rt, "total\t{messages} messages\t{orders} new\t{cancels} cancel\t{place} bytes")?;
+    println!(
+        rt,
+        "total\t{messages} messages\t{orders} new\t{cancels} cancel\t{place} bytes"
+    )?;
     Ok(())
+}
+
+fn is_order(command: Command) -> usize {
+    match command {
+        Command::New(_) => 1,
+        Command::Cancel(_) => 0,
+    }
 }

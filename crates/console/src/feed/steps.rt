@@ -20,7 +20,11 @@ impl<'a> Feed<'a> {
         ensures place { λ r. ⌜ place-of r ≡ 0 ⌝ }
         ensures taken { λ r. ⌜ taken-of r ≡ 0 ⌝ }
     {
-        Feed { bytes, at: 0, count: 0 }
+        Feed {
+            bytes,
+            at: 0,
+            count: 0,
+        }
     }
 
     // How many bytes were taken.
@@ -55,7 +59,11 @@ impl<'a> Feed<'a> {
                 self.count += 1;
                 Some(Ok(first.command))
             }
-            Err(why) => Some(Err(Stopped { why, message: self.count + 1, byte: at + place_in(why) })),
+            Err(why) => Some(Err(Stopped {
+                why,
+                message: self.count + 1,
+                byte: at + place_in(why),
+            })),
         }
     }
 }
