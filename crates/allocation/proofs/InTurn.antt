@@ -37,7 +37,7 @@ fifo-in-turn q (l ∷ ls) (suc i) (suc j) lt some = fifo-in-turn (q - l) ls i j 
 
 -- one turn: the order at i takes x of what is left
 pub fifo-more : (left x i : ℕ) (xs ls whole : List ℕ) → i < length xs → i < length ls → x ≡ min left (getD ls i 0) → take i xs ++ fifo left (drop i ls) ≡ whole
-  → take (i + 1) (set xs i x) ++ fifo (left - x) (drop (i + 1) ls) ≡ whole
+    → take (i + 1) (set xs i x) ++ fifo (left - x) (drop (i + 1) ls) ≡ whole
 unfolding fifo
 fifo-more left x i xs ls whole h k e inv =
     let l = getD ls i 0 in

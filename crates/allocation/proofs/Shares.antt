@@ -2,13 +2,15 @@
 use mathlib.Core.Path.{_≡_, refl, sym, ap, subst, _∙_}
 use mathlib.Core.List.{List, [], _∷_, map}
 use mathlib.Core.Logic.{⊎-elim}
-use Prim.Native.Nat.{ℕ, _*_, _<_, _≤_, min}
+use Prim.Native.Nat.{ℕ, _-_, _*_, _<_, _≤_, min}
 use native.Mathlib.Nat.{div-mul-le-self, div-le-of-le-mul, le-of-mul-le-mul-right, mul-le-mul-right, mul-add, add-mul, div-zero, zero-div, mul-zero}
 use native.Mathlib.Omega.{arith}
-use lib.ListN.{getD}
+use lib.ListN.{length, getD}
 use Rattle.std.specs.shelf.Lists.{sum, Each}
+use Rattle.std.proofs.shelf.Lists.{nil-from-length}
+use Rattle.std.proofs.shelf.Elements.{length-each}
 use Rattle.std.proofs.shelf.Tests.{cases-lt}
-use Rattle.allocation.specs.ProRata.{traded, share, shares, remainder, pro-rata}
+use Rattle.allocation.specs.ProRata.{traded, share, shares, remainder, topped-up, pro-rata}
 use Rattle.allocation.specs.Promise.{share-at}
 use Rattle.allocation.proofs.Rows.{sum-cons, same-from-sums, getD-map-zero}
 use Rattle.allocation.proofs.TopUp.{topped-within, topped-full, topped-above, topped-in-turn}
@@ -68,3 +70,19 @@ pro-rata-at-least q ls i = rw (share-at-is q ls i) at (topped-above (remainder q
 pub pro-rata-in-turn : (q : ℕ) (ls : List ℕ) (i j : ℕ) → i < j → share-at q ls j < getD (pro-rata q ls) j 0 → getD (pro-rata q ls) i 0 ≡ getD ls i 0
 unfolding pro-rata
 pro-rata-in-turn q ls i j lt more = topped-in-turn (remainder q ls) (shares q ls) ls (own-shares-within q ls) i j lt (rw (share-at-is q ls j) more)
+
+-- ---- the passes
+
+pub pro-rata-none : (q : ℕ) (ls fills : List ℕ) → length ls ≡ 0 → length ls ≡ length fills → fills ≡ pro-rata q ls
+pro-rata-none q ls fills none level =
+    let long = length-each _≤_ (pro-rata q ls) ls (pro-rata-within q ls) in
+    nil-from-length fills (omega arith) ∙ sym (nil-from-length (pro-rata q ls) (omega arith))
+
+pub pro-rata-made : (q n t u : ℕ) (ls gs fills : List ℕ) → n ≡ sum ls → t ≡ min q n → gs ≡ map (share t n) ls → u ≡ sum (map (share t n) ls) → fills ≡ topped-up (t - u) gs ls → fills ≡ pro-rata q ls
+unfolding pro-rata
+pro-rata-made q n t u ls gs fills en et eg eu ef =
+    ef
+    ∙ ap (λ v. topped-up (t - v) gs ls) eu
+    ∙ ap (λ xs. topped-up (t - sum (map (share t n) ls)) xs ls) eg
+    ∙ ap (λ s. topped-up (s - sum (map (share s n) ls)) (map (share s n) ls) ls) et
+    ∙ ap (λ m. topped-up (min q m - sum (map (share (min q m) m) ls)) (map (share (min q m) m) ls) ls) en

@@ -66,8 +66,8 @@ within-drop gs ls i h k w = subst (λ xs. Each _≤_ (getD gs i 0 ∷ drop (i + 
 
 -- one turn: the order at i takes x more
 pub topped-more : (r x i : ℕ) (gs ls whole : List ℕ) → i < length gs → i < length ls → x ≡ min r (getD ls i 0 - getD gs i 0)
-  → Each _≤_ (drop i gs) (drop i ls) × (take i gs ++ topped-up r (drop i gs) (drop i ls) ≡ whole)
-  → Each _≤_ (drop (i + 1) (set gs i (getD gs i 0 + x))) (drop (i + 1) ls) × (take (i + 1) (set gs i (getD gs i 0 + x)) ++ topped-up (r - x) (drop (i + 1) (set gs i (getD gs i 0 + x))) (drop (i + 1) ls) ≡ whole)
+    → Each _≤_ (drop i gs) (drop i ls) × (take i gs ++ topped-up r (drop i gs) (drop i ls) ≡ whole)
+    → Each _≤_ (drop (i + 1) (set gs i (getD gs i 0 + x))) (drop (i + 1) ls) × (take (i + 1) (set gs i (getD gs i 0 + x)) ++ topped-up (r - x) (drop (i + 1) (set gs i (getD gs i 0 + x))) (drop (i + 1) ls) ≡ whole)
 topped-more r x i gs ls whole h k e inv =
     let g = getD gs i 0 in
     let l = getD ls i 0 in
@@ -77,12 +77,13 @@ topped-more r x i gs ls whole h k e inv =
     let fill : g + min r (l - g) ≡ y = omega arith in
     let left : r - (l - g) ≡ r - x = omega arith in
     let turn : topped-up r (drop i gs) (drop i ls) ≡ y ∷ topped-up (r - x) (drop (i + 1) (set gs i y)) rest =
-        topped-drop r gs ls i h k
-        ∙ ap (λ z. z ∷ topped-up (r - (l - g)) (drop (i + 1) gs) rest) fill
-        ∙ ap (λ m. y ∷ topped-up m (drop (i + 1) gs) rest) left
-        ∙ ap (λ xs. y ∷ topped-up (r - x) xs rest) same in
-    (subst (λ xs. Each _≤_ xs rest) same (within-drop gs ls i h k (inv .0) .1),
-     written-more gs (topped-up (r - x) (drop (i + 1) (set gs i y)) rest) whole i y h (ap (λ xs. take i gs ++ xs) (sym turn) ∙ inv .1))
+    topped-drop r gs ls i h k
+    ∙ ap (λ z. z ∷ topped-up (r - (l - g)) (drop (i + 1) gs) rest) fill
+    ∙ ap (λ m. y ∷ topped-up m (drop (i + 1) gs) rest) left
+    ∙ ap (λ xs. y ∷ topped-up (r - x) xs rest) same in (
+      subst (λ xs. Each _≤_ xs rest) same (within-drop gs ls i h k (inv .0) .1),
+      written-more gs (topped-up (r - x) (drop (i + 1) (set gs i y)) rest) whole i y h (ap (λ xs. take i gs ++ xs) (sym turn) ∙ inv .1),
+    )
 
 -- nothing is left to deal
 pub topped-early : (r i : ℕ) (gs ls whole : List ℕ) → r ≡ 0 → Each _≤_ (drop i gs) (drop i ls) × (take i gs ++ topped-up r (drop i gs) (drop i ls) ≡ whole) → gs ≡ whole

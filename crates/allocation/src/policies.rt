@@ -37,7 +37,12 @@ pub trait Policy {
         ensures value { λ r. ⌜ r ≡ letter ⌝ };
 
     // Writes the split into `fills`. A refusal leaves them as they were.
-    fn allocate(&self, quantity: u32, lots: &[u32], fills: &mut [u32]) -> Result<(), AllocationRefusal>
+    fn allocate(
+        &self,
+        quantity: u32,
+        lots: &[u32],
+        fills: &mut [u32],
+    ) -> Result<(), AllocationRefusal>
         ensures answers { λ r. ⌜ answer r ≡ tested quantity (now (lots .entry)) (length (now (fills .entry))) ⌝ }
         ensures writes { λ _. ⌜ now (fills .exit) ≡ if-answered (tested quantity (now (lots .entry)) (length (now (fills .entry)))) (split (now (self .entry)) quantity (now (lots .entry))) (now (fills .entry)) ⌝ };
 }

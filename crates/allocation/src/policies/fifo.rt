@@ -33,7 +33,12 @@ pub impl Policy for Fifo as FifoPolicy {
         Self::LETTER
     }
 
-    fn allocate(&self, quantity: u32, lots: &[u32], fills: &mut [u32]) -> Result<(), AllocationRefusal> {
+    fn allocate(
+        &self,
+        quantity: u32,
+        lots: &[u32],
+        fills: &mut [u32],
+    ) -> Result<(), AllocationRefusal> {
         test(quantity, lots, fills.len())?;
         fill_in_turn(quantity, lots, fills);
         Ok(())

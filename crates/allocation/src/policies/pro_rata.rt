@@ -71,7 +71,7 @@ fn fill_in_proportion(quantity: u32, lots: &[u32], fills: &mut [u32])
         return;
     }
     let total = total_of(lots);
-    let trades = total.min(quantity as u64);
+    let trades = (quantity as u64).min(total);
     let given = give_shares(trades, total, lots, fills);
     top_up(trades - given, lots, fills);
 }
@@ -87,7 +87,12 @@ pub impl Policy for ProRata as ProRataPolicy {
         Self::LETTER
     }
 
-    fn allocate(&self, quantity: u32, lots: &[u32], fills: &mut [u32]) -> Result<(), AllocationRefusal> {
+    fn allocate(
+        &self,
+        quantity: u32,
+        lots: &[u32],
+        fills: &mut [u32],
+    ) -> Result<(), AllocationRefusal> {
         test(quantity, lots, fills.len())?;
         fill_in_proportion(quantity, lots, fills);
         Ok(())

@@ -25,10 +25,11 @@ loop-i-again c =
     let x = f (getD ls i 0) in
     let le = share-le (c .args .trades) (c .args .total) (getD ls i 0) (c .pre .part) in
     let step = map-more f ls i 0 (c .loop-i-test .taken) in
-    let sums : sum (map f (take (i + 1) ls)) ≡ sum (map f (take i ls)) + x = ap sum step ∙ sumBy-push (λ n. n) (map f (take i ls)) x in
-    (omega arith,
-     omega arith,
-     take-more-set (c .loop-i .fills) i x (omega arith) ∙ ap (λ xs. xs ++ x ∷ []) (c .loop-i .inv .2) ∙ sym step)
+    let sums : sum (map f (take (i + 1) ls)) ≡ sum (map f (take i ls)) + x = ap sum step ∙ sumBy-push (λ n. n) (map f (take i ls)) x in (
+      omega arith,
+      omega arith,
+      take-more-set (c .loop-i .fills) i x (omega arith) ∙ ap (λ xs. xs ++ x ∷ []) (c .loop-i .inv .2) ∙ sym step,
+    )
 
 pub returns : need.returns
 returns c =
