@@ -9,6 +9,10 @@ pub mod policies;
 // what is promised of the splits
 pub mod promises;
 
+// examples that are run
+#[cfg(test)]
+mod tests;
+
 pub use policies::Policy;
 pub use policies::fifo::Fifo;
 pub use policies::fifo::FifoPolicy;
