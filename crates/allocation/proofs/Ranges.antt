@@ -2,15 +2,18 @@
 use mathlib.Core.Path.{_≡_, refl, sym, ap, _∙_}
 use mathlib.Core.Bool.{Bool, true, false, cond, _&&_}
 use mathlib.Core.List.{List, [], _∷_}
+use mathlib.Core.Logic.{⊎-elim}
 use Prim.Native.Nat.{ℕ, _+_, _<_, _≤_}
 use native.Mathlib.Omega.{arith}
 use lib.Dec.{eqb, leb}
 use lib.ListN.{length, drop, getD}
 use Rattle.std.specs.shelf.Lists.{All, sum}
 use Rattle.std.proofs.shelf.Lists.{at-drop-more, at-drop-all}
-use Rattle.std.proofs.shelf.Tests.{and-parts, and-from, leb-true, le-leb, eqb-true, eq-eqb, ne-eqb}
+use Rattle.std.specs.Orderings.{Decides}
+use Rattle.std.proofs.shelf.Tests.{leb-true, le-leb, eqb-true, eq-eqb, ne-eqb, cases-bool}
+use Rattle.std.proofs.shelf.Ways.{decides-and, decides-by-and, decides-like}
 use Rattle.answers.specs.Answer.{Answer, answered, refused}
-use Rattle.allocation.specs.Range.{tradable, all-tradable, in-range, tested}
+use Rattle.allocation.specs.Range.{most-lots, most-orders, tradable, all-tradable, in-range, tested, Tradable, In-range, Tests-as-told}
 use Rattle.allocation.proofs.Rows.{sum-cons}
 
 -- ---- the answers of the test
@@ -35,28 +38,37 @@ both true true a e = (refl, refl)
 both true false a e = absurd (apart e)
 both false c a e = absurd (apart e)
 
-pub tested-answered : (q : ℕ) (ls : List ℕ) (room : ℕ) (a : Unit {0}) → answered a ≡ tested q ls room → (length ls ≡ room) × (in-range q ls ≡ true)
+-- ---- what is in range
+
+tradable-decides : (n : ℕ) → Decides (tradable n) (Tradable n)
+tradable-decides n = decides-and (leb 1 n) (leb n most-lots) (leb-true 1 n, le-leb 1 n) (leb-true n most-lots, le-leb n most-lots)
+
+all-decides : (ls : List ℕ) → Decides (all-tradable ls) (All Tradable ls)
+all-decides ls = decides-by-and tradable Tradable all-tradable tradable-decides refl (λ _ _. refl) ls
+
+in-range-parts : (q : ℕ) (ls : List ℕ) → Decides (in-range q ls) ((length ls ≤ most-orders) × (Tradable q × All Tradable ls))
+in-range-parts q ls = decides-and (leb (length ls) most-orders) (tradable q && all-tradable ls) (leb-true (length ls) 1024, le-leb (length ls) most-orders) (decides-and (tradable q) (all-tradable ls) (tradable-decides q) (all-decides ls))
+
+pub in-range-decides : (q : ℕ) (ls : List ℕ) → Decides (in-range q ls) (In-range q ls)
+in-range-decides q ls = decides-like (in-range q ls) (λ p. record { few = p .0; incoming = p .1 .0; resting = p .1 .1 }) (λ r. (r .few, (r .incoming, r .resting))) (in-range-parts q ls)
+
+pub tested-answered : (q : ℕ) (ls : List ℕ) (room : ℕ) (a : Unit {0}) → answered a ≡ tested q ls room → (length ls ≡ room) × In-range q ls
 unfolding tested
 tested-answered q ls room a e =
     let p = both (eqb (length ls) room) (in-range q ls) a e in
-    (eqb-true (length ls) room (p .0), p .1)
+    (eqb-true (length ls) room (p .0), in-range-decides q ls .0 (p .1))
 
--- ---- what is in range
-
-pub tradable-parts : (n : ℕ) → tradable n ≡ true → (1 ≤ n) × (n ≤ 999999)
-tradable-parts n e = let p = and-parts (leb 1 n) (leb n 999999) e in (leb-true 1 n (p .0), leb-true n 999999 (p .1))
-
-pub in-range-parts : (q : ℕ) (ls : List ℕ) → in-range q ls ≡ true → (length ls ≤ 1024) × (1 ≤ q) × (q ≤ 999999) × (all-tradable ls ≡ true)
-in-range-parts q ls e =
-    let p = and-parts (leb (length ls) 1024) (tradable q && all-tradable ls) e in
-    let r = and-parts (tradable q) (all-tradable ls) (p .1) in
-    let t = tradable-parts q (r .0) in
-    (leb-true (length ls) 1024 (p .0), t .0, t .1, r .1)
+pub tests : Tests-as-told
+tests q ls room = record {
+  lengths-differ = λ h. sym (tested-lengths q ls room h);
+  out-of-range = λ h no-range. sym (tested-range q ls room h (⊎-elim (λ (e : in-range q ls ≡ true). absurd (no-range (in-range-decides q ls .0 e))) (λ (e : in-range q ls ≡ false). e) (cases-bool (in-range q ls))));
+  fits = λ h r. sym (tested-fits q ls room h (in-range-decides q ls .1 r));
+}
 
 -- the lots of at least one order come to something
-pub sum-above : (ls : List ℕ) → all-tradable ls ≡ true → 0 < length ls → 0 < sum ls
-sum-above [] e h = absurd (omega arith)
-sum-above (l ∷ ls) e h = omega (arith, tradable-parts l (and-parts (tradable l) (all-tradable ls) e .0) .0, sum-cons l ls)
+pub sum-above : (ls : List ℕ) → All Tradable ls → 0 < length ls → 0 < sum ls
+sum-above [] a h = absurd (omega arith)
+sum-above (l ∷ ls) a h = omega (arith, a .0 .0, sum-cons l ls)
 
 -- ---- the loop over the orders
 

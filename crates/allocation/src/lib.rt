@@ -19,6 +19,7 @@ pub use policies::fifo::FifoPolicy;
 pub use policies::pro_rata::ProRata;
 pub use policies::pro_rata::ProRataPolicy;
 pub use promises::promises_hold;
+pub use promises::tests_are_as_told;
 pub use promises::worked_examples_hold;
 pub use range::MOST_LOTS;
 pub use range::MOST_ORDERS;

@@ -1,10 +1,9 @@
 ghost use mathlib.Core.Path.{_≡_};
-ghost use mathlib.Core.Bool.{true};
 ghost use mathlib.Core.List.{map};
 ghost use Prim.Native.Nat.{_<_, _≤_};
 ghost use lib.ListN.{length};
 ghost use Rattle.std.specs.shelf.Lists.{sum, Each};
-ghost use Rattle.allocation.specs.Range.{in-range};
+ghost use Rattle.allocation.specs.Range.{most-lots, most-orders, In-range};
 ghost use Rattle.allocation.specs.ProRata.{share, topped-up, pro-rata};
 use crate::policies::Policy;
 use crate::range::test;
@@ -15,7 +14,7 @@ use crate::refusal::AllocationRefusal;
 pub struct ProRata;
 
 fn total_of(lots: &[u32]) -> u64
-    requires few { ⌜ length (now lots) ≤ 1024 ⌝ }
+    requires few { ⌜ length (now lots) ≤ most-orders ⌝ }
     ensures value { λ r. ⌜ r ≡ sum (now (lots .entry)) ⌝ }
 {
     let mut total = 0;
@@ -27,11 +26,11 @@ fn total_of(lots: &[u32]) -> u64
 
 // Gives each order its share of `trades`, rounded down, and returns what the shares come to.
 fn give_shares(trades: u64, total: u64, lots: &[u32], fills: &mut [u32]) -> u64
-    requires few { ⌜ length (now lots) ≤ 1024 ⌝ }
+    requires few { ⌜ length (now lots) ≤ most-orders ⌝ }
     requires level { ⌜ length (now lots) ≡ length (now fills) ⌝ }
     requires some { ⌜ 0 < total ⌝ }
     requires part { ⌜ trades ≤ total ⌝ }
-    requires small { ⌜ trades ≤ 999999 ⌝ }
+    requires small { ⌜ trades ≤ most-lots ⌝ }
     ensures writes { λ _. ⌜ now (fills .exit) ≡ map (share trades total) (now (lots .entry)) ⌝ }
     ensures value { λ r. ⌜ r ≡ sum (map (share trades total) (now (lots .entry))) ⌝ }
 {
@@ -63,7 +62,7 @@ fn top_up(more: u64, lots: &[u32], fills: &mut [u32])
 
 // The three passes: the total, the shares, the remainder.
 fn fill_in_proportion(quantity: u32, lots: &[u32], fills: &mut [u32])
-    requires range { ⌜ in-range quantity (now lots) ≡ true ⌝ }
+    requires range { ⌜ In-range quantity (now lots) ⌝ }
     requires level { ⌜ length (now lots) ≡ length (now fills) ⌝ }
     ensures writes { λ _. ⌜ now (fills .exit) ≡ pro-rata quantity (now (lots .entry)) ⌝ }
 {

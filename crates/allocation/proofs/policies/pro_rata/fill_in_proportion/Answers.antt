@@ -7,7 +7,7 @@ use Rattle.std.specs.shelf.Lists.{Each}
 use Rattle.std.proofs.shelf.Elements.{length-each}
 use Rattle.std.proofs.shelf.Tests.{eqb-true, eqb-false}
 use Rattle.allocation.specs.ProRata.{share}
-use Rattle.allocation.proofs.Ranges.{in-range-parts, sum-above}
+use Rattle.allocation.proofs.Ranges.{sum-above}
 use Rattle.allocation.proofs.Shares.{shares-within, shares-le, pro-rata-none, pro-rata-made}
 use Rattle.allocation.proofs.policies.pro_rata.fill_in_proportion.Needs as need
 
@@ -17,10 +17,9 @@ returns-then-is-empty c = record { writes = pro-rata-none (c .args .quantity) (c
 pub give-shares-given-requires : need.give-shares-given-requires
 give-shares-given-requires c κs =
     let ls = c .args .lots .now in
-    let told = in-range-parts (c .args .quantity) ls (c .pre .range) in
     let some : 0 < length ls = omega (arith, eqb-false (length ls) 0 (sym (c .if-is-empty .ensures tt))) in
-    let above = sum-above ls (told .3) some in
-    record { few = told .0; level = c .pre .level; some = omega arith; part = omega arith; small = omega arith }
+    let above = sum-above ls (c .pre .range .resting) some in
+    record { few = c .pre .range .few; level = c .pre .level; some = omega arith; part = omega arith; small = omega (arith, c .pre .range .incoming .1) }
 
 pub sub-trades : need.sub-trades
 sub-trades c = omega (arith, shares-le (c .min-trades .result) (c .total-of-total .result) (c .args .lots .now) (c .total-of-total .ensures .value), c .give-shares-given .ensures .value)
