@@ -11,4 +11,5 @@ pub record Worked-examples : Type 0 where
   pub pro-rata-7 : pro-rata 7 (4 ∷ 9 ∷ []) ≡ 3 ∷ 4 ∷ []
   pub fifo-3 : fifo 3 (1 ∷ 1 ∷ 1 ∷ 1 ∷ []) ≡ 1 ∷ 1 ∷ 1 ∷ 0 ∷ []
   pub pro-rata-3 : pro-rata 3 (1 ∷ 1 ∷ 1 ∷ 1 ∷ []) ≡ 1 ∷ 1 ∷ 1 ∷ 0 ∷ []
+  pub fifo-5 : fifo 5 (3 ∷ 3 ∷ 3 ∷ []) ≡ 3 ∷ 2 ∷ 0 ∷ []
   pub pro-rata-5 : pro-rata 5 (3 ∷ 3 ∷ 3 ∷ []) ≡ 3 ∷ 1 ∷ 1 ∷ []
