@@ -2,13 +2,14 @@
 use mathlib.Core.Path.{_≡_, refl, sym, ap, subst, _∙_}
 use mathlib.Core.List.{List, [], _∷_, map}
 use mathlib.Core.Logic.{⊎-elim}
-use Prim.Native.Nat.{ℕ, _-_, _*_, _<_, _≤_, min}
-use native.Mathlib.Nat.{div-mul-le-self, div-le-of-le-mul, le-of-mul-le-mul-right, mul-le-mul-right, mul-add, add-mul, div-zero, zero-div, mul-zero}
+use Prim.Native.Nat.{ℕ, zero, suc, _+_, _-_, _*_, _<_, _≤_, min}
+use native.Mathlib.Nat.{div-mul-le-self, div-le-of-le-mul, le-of-mul-le-mul-right, mul-le-mul-right, mul-add, add-mul, mul-suc, suc-mul, div-zero, zero-div, mul-zero}
 use native.Mathlib.Omega.{arith}
 use lib.ListN.{length, getD}
 use Rattle.std.specs.shelf.Lists.{sum, Each}
 use Rattle.std.proofs.shelf.Lists.{nil-from-length}
 use Rattle.std.proofs.shelf.Elements.{length-each}
+use Rattle.std.proofs.shelf.Bits.{div-add-mod', mod-below}
 use Rattle.std.proofs.shelf.Tests.{cases-lt}
 use Rattle.allocation.specs.ProRata.{traded, share, shares, remainder, topped-up, pro-rata}
 use Rattle.allocation.specs.Promise.{share-at}
@@ -41,6 +42,34 @@ shares-le t n ls e = ⊎-elim
     (λ (some : 0 < n). le-of-mul-le-mul-right (subst (λ m. sum (map (share t n) ls) * n ≤ t * m) (sym e) (shares-sum t n ls)) some)
     (λ (none : n ≤ 0). let z : n ≡ 0 = omega arith in omega (arith, ap (λ m. sum (map (share t m) ls)) z, shares-none t ls))
     (cases-lt 0 n)
+
+-- nor less by a lot for each order: a total of m + 1 keeps the differences out of it
+share-near : (t m l : ℕ) → t * l ≤ share t (suc m) l * suc m + m
+share-near t m l = omega (arith, div-add-mod' (t * l) (suc m), mod-below (t * l) (suc m) (omega arith))
+
+shares-near : (t m : ℕ) (ls : List ℕ) → t * sum ls ≤ sum (map (share t (suc m)) ls) * suc m + length ls * m
+shares-near t m [] = omega arith
+shares-near t m (l ∷ ls) =
+    let f = share t (suc m) in
+    let ih = shares-near t m ls in
+    let here = share-near t m l in
+    rw (sum-cons (f l) (map f ls), sum-cons l ls) (omega (arith, add-mul (f l) (sum (map f ls)) (suc m), mul-add t l (sum ls), suc-mul (length ls) m))
+
+shares-short : (t m : ℕ) (ls : List ℕ) → sum ls ≡ suc m → 0 < length ls → t < sum (map (share t (suc m)) ls) + length ls
+shares-short t m ls e some =
+    let given = sum (map (share t (suc m)) ls) in
+    let near : t * suc m ≤ given * suc m + length ls * m = subst (λ n. t * n ≤ given * suc m + length ls * m) e (shares-near t m ls) in
+    ⊎-elim
+    (λ (h : t < given + length ls). h)
+    (λ (h : given + length ls ≤ t). absurd (omega (arith, mul-le-mul-right (suc m) h, add-mul given (length ls) (suc m), mul-suc (length ls) m)))
+    (cases-lt t (given + length ls))
+
+remainder-by : (q n : ℕ) (ls : List ℕ) → n ≡ sum ls → 0 < length ls → min q n - sum (map (share (min q n) n) ls) < length ls
+remainder-by q zero ls e some = omega arith
+remainder-by q (suc m) ls e some = omega (arith, shares-short (min q (suc m)) m ls (sym e) some)
+
+pub remainder-small : (q : ℕ) (ls : List ℕ) → 0 < length ls → remainder q ls < length ls
+remainder-small q ls some = remainder-by q (sum ls) ls refl some
 
 -- ---- pro-rata
 

@@ -2,10 +2,10 @@
 use mathlib.Core.Path.{_≡_}
 use mathlib.Core.List.{List}
 use Prim.Native.Nat.{ℕ, _≤_, _<_}
-use lib.ListN.{getD}
+use lib.ListN.{length, getD}
 use Rattle.std.specs.shelf.Lists.{sum}
 use Rattle.allocation.specs.Fifo.{fifo}
-use Rattle.allocation.specs.ProRata.{traded, share, pro-rata}
+use Rattle.allocation.specs.ProRata.{traded, share, remainder, pro-rata}
 
 -- the rounded-down share of the order at `place`
 abbrev pub share-at : ℕ → List ℕ → ℕ → ℕ
@@ -22,6 +22,10 @@ In-turn = (quantity : ℕ) (lots : List ℕ) (older younger : ℕ) → older < y
 -- pro-rata gives no order less than its share
 abbrev pub At-least-the-share : Type 0
 At-least-the-share = (quantity : ℕ) (lots : List ℕ) (place : ℕ) → share-at quantity lots place ≤ getD (pro-rata quantity lots) place 0
+
+-- rounding leaves a remainder of fewer lots than there are orders
+abbrev pub Remainder-is-small : Type 0
+Remainder-is-small = (quantity : ℕ) (lots : List ℕ) → 0 < length lots → remainder quantity lots < length lots
 
 -- pro-rata gives an order more than its share only where each older one is filled whole
 abbrev pub Remainder-in-turn : Type 0

@@ -43,7 +43,7 @@ fn give_shares(trades: u64, total: u64, lots: &[u32], fills: &mut [u32]) -> u64
     given
 }
 
-// Deals `more`, the oldest first, over what each order still has. It mostly ends after a few orders.
+// Deals `more`, the oldest first, over what each order still has. It stops where nothing is left, mostly after a few orders.
 fn top_up(more: u64, lots: &[u32], fills: &mut [u32])
     requires level { ⌜ length (now lots) ≡ length (now fills) ⌝ }
     requires within { ⌜ Each _≤_ (now fills) (now lots) ⌝ }
