@@ -1,4 +1,4 @@
-//! The two policies, written from docs/POLICIES.md alone, to be compared with the proved ones.
+//! The two policies in the simplest plain Rust, after docs/POLICIES.md, to be compared with the proved ones.
 
 /// First in, first out: each order in turn is filled as far as the quantity goes.
 pub fn fifo(q: u32, lots: &[u32]) -> Vec<u32> {

@@ -1,4 +1,4 @@
--- Splits worked by hand.
+-- The worked examples of the two splits.
 use mathlib.Core.Path.{_≡_}
 use mathlib.Core.List.{[], _∷_}
 use Rattle.allocation.specs.Fifo.{fifo}
