@@ -1,0 +1,5 @@
+pub mod Rows
+pub mod InTurn
+pub mod TopUp
+pub mod Shares
+pub mod Ranges
