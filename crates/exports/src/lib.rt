@@ -2,3 +2,5 @@
 
 // the splits of the policies
 pub mod allocation;
+// messages read and written
+pub mod messages;
