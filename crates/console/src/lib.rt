@@ -2,12 +2,17 @@
 
 // messages back to back
 mod feed;
+// bytes as people type them
+mod shown;
 // rows and words
 mod table;
 
 pub use feed::Feed;
 pub use feed::Stopped;
+pub use shown::unshow;
 pub use table::HEADER;
+pub use table::Refused;
+pub use table::RefusedDisplay;
 pub use table::Row;
 pub use table::RowDisplay;
 pub use table::StoppedDisplay;

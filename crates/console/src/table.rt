@@ -43,16 +43,35 @@ fn side_name(side: Side) -> &'static str {
     }
 }
 
-// The number of the refusal, what it means, the message's count and the byte.
+// A message's refusal: its number, what it means, and the place in the message where that says one.
+#[derive(Clone, Copy)]
+pub struct Refused(pub MessageRefusal);
+
+pub impl fmt::Display for Refused as RefusedDisplay {
+    fn fmt<W: fmt::Write>(&self, f: &mut fmt::Formatter<W>) -> fmt::Result {
+        let words = meaning(self.0);
+        match self.0 {
+            MessageRefusal::WrongField { place } => write!(f, "refused\t{words}\tbyte {place}"),
+            MessageRefusal::WrongCount | MessageRefusal::WrongSum => write!(f, "refused\t{words}"),
+        }
+    }
+}
+
+// Where a run of messages stops: the refusal, the message's count and the byte of the run.
 pub impl fmt::Display for Stopped as StoppedDisplay {
     fn fmt<W: fmt::Write>(&self, f: &mut fmt::Formatter<W>) -> fmt::Result {
-        let words = match self.why {
-            MessageRefusal::WrongField { .. } => "11\ta field is wrong or missing",
-            MessageRefusal::WrongCount => "12\tBodyLength is not the count of bytes",
-            MessageRefusal::WrongSum => "13\tCheckSum is not the sum of bytes",
-        };
+        let words = meaning(self.why);
         let message = self.message;
         let byte = self.byte;
         write!(f, "refused\t{words}\tmessage {message}\tbyte {byte}")
+    }
+}
+
+// The number of a refusal, and what it means.
+fn meaning(why: MessageRefusal) -> &'static str {
+    match why {
+        MessageRefusal::WrongField { .. } => "11\ta field is wrong or missing",
+        MessageRefusal::WrongCount => "12\tBodyLength is not the count of bytes",
+        MessageRefusal::WrongSum => "13\tCheckSum is not the sum of bytes",
     }
 }
