@@ -1,0 +1,12 @@
+ghost use Rattle.sealed.specs.Law.{Reads-back, Is-sealing, Has-size, Is-block, Zeros-unsealed};
+
+/// The laws of sealing and reading, over every payload and every block.
+pub fn sealing_laws_hold() -> u8
+    ensures reads_back { λ _. ⌜ Reads-back ⌝ }
+    ensures is_sealing { λ _. ⌜ Is-sealing ⌝ }
+    ensures has_size { λ _. ⌜ Has-size ⌝ }
+    ensures is_block { λ _. ⌜ Is-block ⌝ }
+    ensures zeros_unsealed { λ _. ⌜ Zeros-unsealed ⌝ }
+{
+    0
+}
