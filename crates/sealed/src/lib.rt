@@ -22,3 +22,6 @@ pub use payload::check;
 pub use sealer::SealRefusal;
 pub use sealer::seal;
 pub use zero::is_zero;
+
+#[cfg(test)]
+mod tests;

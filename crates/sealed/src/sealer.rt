@@ -14,7 +14,7 @@ use crate::mask::mask;
 use crc32c::checksum;
 
 /// Why a payload is not sealed.
-#[derive(Clone, Copy, PartialEq, Eq, Debug)]
+#[derive(Clone, Copy, Debug)]
 pub enum SealRefusal {
     /// A payload has 1 to 505 bytes, and this one has `length`.
     PayloadLength { length: usize },
