@@ -1,5 +1,5 @@
 -- A loop over `as_chunks` keeps: what is left of the bytes, from the register so far, gives the register over all.
-use mathlib.Core.Path.{_≡_, refl, sym, _∙_, ap}
+use mathlib.Core.Path.{_≡_, sym, _∙_, ap}
 use mathlib.Core.List.{List, []}
 use Prim.Native.Nat.{ℕ, zero, suc, _+_, _*_, _/_, _<_}
 use native.Mathlib.Nat.{add-comm, zero-mul, suc-mul, not-suc-le-zero, le-of-suc-le-suc}

@@ -1,5 +1,4 @@
 ghost use Rattle.crc32c.specs.Crc.{crc};
-ghost use lib.Chars.{codes};
 ghost use mathlib.Core.Path.{_≡_};
 use crate::register::over;
 
@@ -11,11 +10,4 @@ pub fn checksum(bytes: &[u8]) -> u32
     ensures value { λ r. ⌜ r ≡ crc (now (bytes .entry)) ⌝ }
 {
     over(ONES, bytes) ^ ONES
-}
-
-/// The check value by which catalogues of checksums tell CRC-32C from others.
-pub fn check_value_holds() -> u8
-    ensures value { λ _. ⌜ crc (codes "123456789") ≡ 0xE306_9283 ⌝ }
-{
-    0
 }

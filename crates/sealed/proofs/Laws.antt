@@ -1,22 +1,21 @@
 -- Sealing and reading undo each other.
 use mathlib.Core.Path.{_≡_, refl, sym, _∙_, ap}
-use mathlib.Core.Bool.{true}
 use mathlib.Core.List.{List, [], _∷_, _++_}
-use Prim.Native.Nat.{ℕ, zero, suc, _+_, _-_, _^_, _%_, _≤_, _<_}
-use native.Mathlib.Nat.{mod-lt}
+use Prim.Native.Nat.{ℕ, zero, suc, _+_, _-_, _^_, _≤_, _<_}
 use native.Mathlib.Numerals.{one-add}
 use native.Mathlib.Omega.{arith}
-use lib.ListN.{length, getD, take, drop, replicate, length-drop}
-use Rattle.std.specs.declared.option.Option.the-variants.{Some, None}
+use lib.ListN.{length, take, drop, replicate, length-drop}
+use Rattle.std.specs.declared.option.Option.the-variants.{Some}
 use Rattle.std.proofs.shelf.Lists.{length-append, length-replicate, length-take-le, take-at, drop-at, drop-drop, drop-more, take-append-drop}
 use Rattle.crc32c.specs.Crc.{crc}
 use Rattle.sealed.specs.Mask.{masked}
-use Rattle.sealed.specs.Number.{low-bytes, number, Bytes}
+use Rattle.crc32c.specs.Byte.{Bytes}
+use Rattle.sealed.specs.Number.{low-bytes, number}
 use Rattle.sealed.specs.Zero.{all-zero}
 use Rattle.sealed.specs.Sealing.{sealing}
-use Rattle.sealed.specs.Part.{stored, size, kind, payload, covered, tail, part}
+use Rattle.sealed.specs.Part.{stored, size, payload, covered, tail}
 use Rattle.sealed.specs.Law.{Reads-back, Is-sealing, Has-size, Is-block, Zeros-unsealed}
-use Rattle.sealed.proofs.Numbers.{length-low-bytes, number-low-bytes, low-bytes-number, bytes-take, bytes-drop, bytes-++, bytes-low-bytes}
+use Rattle.sealed.proofs.Numbers.{number-low-bytes, low-bytes-number, bytes-take, bytes-drop, bytes-++, bytes-low-bytes}
 use Rattle.sealed.proofs.Zeros.{zeros-replicate, zeros-are}
 use Rattle.sealed.proofs.Parts.{Sealed, part-some, part-none, part-sealed, length-payload}
 
@@ -111,7 +110,7 @@ module _ (b : List ℕ) (bytes : Bytes b) (s : Sealed b) where
       ∙ ap (λ (t : List ℕ). 1 ∷ t)
       (sym (take-append-drop (size b) (drop 7 b)) ∙ ap (λ (t : List ℕ). payload b ++ t) (drop-drop (size b) 7 b ∙ is-tail))
 
-  is-covered : covered b ≡ 1 ∷ payload b
+  pub is-covered : covered b ≡ 1 ∷ payload b
   is-covered =
       ap (λ (n : ℕ). take n (drop 6 b)) (one-add (size b))
       ∙ ap (take (suc (size b))) (drop-more b 6 0 (omega arith))

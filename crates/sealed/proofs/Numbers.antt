@@ -1,16 +1,12 @@
 -- Numbers and the bytes that spell them.
-use mathlib.Core.Path.{_≡_, refl, sym, _∙_, ap}
+use mathlib.Core.Path.{_≡_, refl, _∙_, ap}
 use mathlib.Core.List.{List, [], _∷_, _++_}
 use Prim.Native.Nat.{ℕ, zero, suc, _+_, _*_, _/_, _%_, _^_, _<_}
 use native.Mathlib.Nat.{pow-suc}
 use native.Mathlib.Omega.{arith}
-use lib.ListN.{length, getD, take, drop}
-use Rattle.sealed.specs.Number.{low-bytes, number, Bytes}
-
-pub length-low-bytes : (n x : ℕ) → length (low-bytes n x) ≡ n
-unfolding low-bytes
-length-low-bytes zero x = refl
-length-low-bytes (suc n) x = ap suc (length-low-bytes n (x / 256))
+use lib.ListN.{length, take, drop}
+use Rattle.crc32c.specs.Byte.{Bytes}
+use Rattle.sealed.specs.Number.{low-bytes, number}
 
 pub number-low-bytes : (n x : ℕ) → x < 256 ^ n → number (low-bytes n x) ≡ x
 unfolding low-bytes number

@@ -1,13 +1,11 @@
 -- When a block is sealed, rule by rule.
 use mathlib.Core.Path.{_≡_, refl, sym, _∙_, ap}
-use mathlib.Core.Bool.{Bool, true, false, cond, _&&_}
+use mathlib.Core.Bool.{true}
 use mathlib.Core.List.{List, [], _∷_}
-use mathlib.Core.Logic.{_⊎_, inl, inr, ⊎-elim}
+use mathlib.Core.Logic.{⊎-elim}
 use Prim.Native.Nat.{ℕ, zero, suc, _+_, _-_, _*_, _≤_}
 use native.Mathlib.Omega.{arith}
-use lib.Dec.{eqb, leb}
 use lib.ListN.{length, getD, take, drop, length-drop}
-use Rattle.std.specs.declared.option.Option.{Option}
 use Rattle.std.specs.declared.option.Option.the-variants.{Some, None}
 use Rattle.std.proofs.shelf.Lists.{length-take-le, take-rest, drop-drop}
 use Rattle.std.proofs.shelf.Tests.{and-parts, and-from, eqb-true, eq-eqb, leb-true, le-leb, cases-bool, cond-true, cond-false}
@@ -65,27 +63,30 @@ module _ (b : List ℕ) where
   sealed-from : is-sealed b ≡ true → Sealed b
   unfolding is-sealed
   sealed-from e =
-      let p = and-parts _ _ e in
-      let q = and-parts _ _ (p .1) in
-      let r = and-parts _ _ (q .1) in
-      let s = and-parts _ _ (r .1) in
-      let t = and-parts _ _ (s .1) in
+      let t = and-parts _ _ e in
+      let s = and-parts _ _ (t .0) in
+      let r = and-parts _ _ (s .0) in
+      let q = and-parts _ _ (r .0) in
+      let p = and-parts _ _ (q .0) in
       record {
         whole = eqb-true (length b) 512 (p .0);
-        full = eqb-true (kind b) 1 (q .0);
-        some = leb-true 1 (size b) (r .0);
-        most = leb-true (size b) 505 (s .0);
-        sum = eqb-true (stored b) (masked (crc (covered b))) (t .0);
+        full = eqb-true (kind b) 1 (p .1);
+        some = leb-true 1 (size b) (q .1);
+        most = leb-true (size b) 505 (r .1);
+        sum = eqb-true (stored b) (masked (crc (covered b))) (s .1);
         zeros = t .1;
       }
 
   sealed-is : Sealed b → is-sealed b ≡ true
   unfolding is-sealed
   sealed-is s =
-      and-from _ _ (eq-eqb _ _ (s .whole))
-      (and-from _ _ (eq-eqb _ _ (s .full))
-      (and-from _ _ (le-leb _ _ (s .some))
-      (and-from _ _ (le-leb _ _ (s .most)) (and-from _ _ (eq-eqb _ _ (s .sum)) (s .zeros)))))
+      and-from _ _
+      (and-from _ _
+      (and-from _ _
+      (and-from _ _ (and-from _ _ (eq-eqb _ _ (s .whole)) (eq-eqb _ _ (s .full))) (le-leb _ _ (s .some)))
+      (le-leb _ _ (s .most)))
+      (eq-eqb _ _ (s .sum)))
+      (s .zeros)
 
   pub part-some : Sealed b → part b ≡ Some (payload b)
   unfolding part

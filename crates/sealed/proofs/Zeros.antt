@@ -1,17 +1,18 @@
 -- Bytes are all zero exactly where the number that they spell is 0, and where each word of them is.
 use mathlib.Core.Path.{_≡_, refl, sym, _∙_, ap}
-use mathlib.Core.Bool.{Bool, true, false, _&&_}
+use mathlib.Core.Bool.{Bool, true}
 use mathlib.Core.List.{List, [], _∷_, _++_}
-use mathlib.Core.Logic.{_⊎_, inl, inr, ⊎-elim}
-use Prim.Native.Nat.{ℕ, zero, suc, _+_, _*_, _/_, _<_, _≤_}
+use mathlib.Core.Logic.{⊎-elim}
+use Prim.Native.Nat.{ℕ, zero, suc, _+_, _*_, _<_}
 use native.Mathlib.Omega.{arith}
 use lib.Bits.{bitOr, or-add-and, and-le-l, and-le-r}
 use lib.Dec.{eqb}
 use lib.Lanes.{chunk}
-use lib.ListN.{length, getD, take, drop, replicate}
+use lib.ListN.{length, getD, drop, replicate}
 use Rattle.std.proofs.shelf.Lanes.{chunk-drop}
 use Rattle.std.proofs.shelf.Lists.{at-drop-all, drop-more}
 use Rattle.std.proofs.shelf.Tests.{and-parts, and-from, eqb-true, eq-eqb, cases-bool}
+use Rattle.std.specs.Orderings.{Decides}
 use Rattle.sealed.specs.Number.{number}
 use Rattle.sealed.specs.Zero.{all-zero}
 
@@ -45,6 +46,9 @@ zeros-are [] h = refl
 zeros-are (x ∷ xs) h =
     let p = and-parts (eqb x 0) (all-zero xs) h in
     ap (λ (t : ℕ). t ∷ xs) (eqb-true x 0 (p .0)) ∙ ap (λ (t : List ℕ). 0 ∷ t) (zeros-are xs (p .1))
+
+pub zeros-decides : (t : Bool) (xs : List ℕ) → t ≡ all-zero xs → Decides t (xs ≡ replicate (length xs) 0)
+zeros-decides t xs e = (λ h. zeros-are xs (sym e ∙ h), λ h. e ∙ ap all-zero h ∙ zeros-replicate (length xs))
 
 number-drop : (k : ℕ) (bs : List ℕ) → number (drop k bs) ≡ getD bs k 0 + 256 * number (drop (suc k) bs)
 unfolding number

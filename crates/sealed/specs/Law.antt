@@ -1,10 +1,10 @@
 -- What sealing and reading are to each other.
 use mathlib.Core.Path.{_≡_}
 use mathlib.Core.List.{List}
-use Prim.Native.Nat.{ℕ, _≤_}
-use lib.ListN.{length, replicate}
+use Prim.Native.Nat.{ℕ, _≤_, _<_}
+use lib.ListN.{length, getD, set, replicate}
 use Rattle.std.specs.declared.option.Option.the-variants.{Some, None}
-use Rattle.sealed.specs.Number.{Bytes}
+use Rattle.crc32c.specs.Byte.{Bytes}
 use Rattle.sealed.specs.Sealing.{sealing}
 use Rattle.sealed.specs.Part.{part}
 
@@ -27,3 +27,7 @@ Is-block = (p : List ℕ) → length p ≤ 505 → (length (sealing p) ≡ 512) 
 -- zeros are not sealed
 abbrev pub Zeros-unsealed : Type 0
 Zeros-unsealed = part (replicate 512 0) ≡ None
+
+-- one changed byte shows, unless it is a byte of the length
+abbrev pub Change-seen : Type 0
+Change-seen = (b p : List ℕ) (place byte : ℕ) → Bytes b → part b ≡ Some p → place < 512 → (place ≡ 4 → ⊥) → (place ≡ 5 → ⊥) → byte < 256 → (byte ≡ getD b place 0 → ⊥) → part (set b place byte) ≡ None

@@ -1,7 +1,6 @@
 -- Numbers in bytes, low byte first.
 use mathlib.Core.List.{List, [], _∷_}
-use Prim.Native.Nat.{ℕ, zero, suc, _+_, _*_, _/_, _%_, _<_}
-use lib.ListN.{getD}
+use Prim.Native.Nat.{ℕ, zero, suc, _+_, _*_, _/_, _%_}
 
 -- the n low bytes of x
 unfoldable pub low-bytes : ℕ → ℕ → List ℕ
@@ -12,7 +11,3 @@ low-bytes (suc n) x = (x % 256) ∷ low-bytes n (x / 256)
 unfoldable pub number : List ℕ → ℕ
 number [] = 0
 number (b ∷ bs) = b + 256 * number bs
-
--- each element is a byte
-abbrev pub Bytes : List ℕ → Type 0
-Bytes bs = (k : ℕ) → getD bs k 0 < 256

@@ -36,7 +36,11 @@ module _ (block : List ℕ) where
   unfoldable pub is-sealed : Bool
   is-sealed =
       eqb (length block) 512
-      && (eqb kind 1 && (leb 1 size && (leb size 505 && (eqb stored (masked (crc covered)) && all-zero tail))))
+      && eqb kind 1
+      && leb 1 size
+      && leb size 505
+      && eqb stored (masked (crc covered))
+      && all-zero tail
 
   unfoldable pub part : Option (List ℕ)
   part = cond is-sealed (Some payload) None

@@ -1,5 +1,7 @@
 /// The bytes of a block: a sector, which a drive writes as a whole.
 pub const BLOCK: usize = 512;
+/// The place of the kind, from which on the checksum covers.
+pub const KIND: usize = 6;
 /// The place of the payload, after the checksum, the length and the kind.
 pub const PLACE: usize = 7;
 /// The bytes of the longest payload: what a block has after the first seven.

@@ -3,6 +3,7 @@ ghost use Rattle.std.specs.Options.{mapped, Cases as BySome};
 ghost use Rattle.std.specs.declared.option.Option.the-variants.{None};
 ghost use mathlib.Core.Path.{_≡_};
 use crate::format::FULL;
+use crate::format::KIND;
 use crate::format::LONGEST;
 use crate::format::PLACE;
 use crate::mask::mask;
@@ -38,7 +39,7 @@ pub fn check(block: &[u8]) -> Option<Payload<'_>>
         return None;
     }
     let stored = u32::from_le_bytes([*c0, *c1, *c2, *c3]);
-    if stored != mask(checksum(&block[6..7 + length])) {
+    if stored != mask(checksum(&block[KIND..PLACE + length])) {
         return None;
     }
     let (bytes, tail) = rest.split_at(length);

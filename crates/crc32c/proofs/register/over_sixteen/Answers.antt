@@ -4,8 +4,8 @@ use Prim.Native.Nat.{ℕ, _*_, _/_, _<_}
 use native.Mathlib.Omega.{arith}
 use lib.Bits.{bitXor}
 use lib.Lanes.{chunk}
-use lib.ListN.{length, getD, take, drop}
-use Rattle.std.proofs.shelf.Lanes.{length-chunk, chunk-drop}
+use lib.ListN.{length, getD, drop}
+use Rattle.std.proofs.shelf.Lanes.{chunk-drop}
 use Rattle.std.proofs.shelf.Lists.{take-all, length-drop}
 use Rattle.crc32c.specs.Crc.{steps, register}
 use Rattle.crc32c.proofs.Word.{register-two}

@@ -1,3 +1,4 @@
+use Rattle.sealed.proofs.Changes.{change-seen}
 use Rattle.sealed.proofs.Laws as laws
 use Rattle.sealed.proofs.law.sealing_laws_hold.Needs as need
 
@@ -9,4 +10,5 @@ returns c =
       has-size = laws.has-size;
       is-block = laws.is-block;
       zeros-unsealed = laws.zeros-unsealed;
+      change-seen = change-seen;
     }

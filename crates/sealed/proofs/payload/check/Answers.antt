@@ -1,16 +1,15 @@
 use mathlib.Core.Path.{_≡_, sym, _∙_, ap}
-use mathlib.Core.Bool.{true, false}
+use mathlib.Core.Bool.{false}
 use mathlib.Core.List.{List}
 use Prim.Native.Nat.{ℕ, _-_}
 use native.Mathlib.Omega.{arith}
-use lib.ListN.{length}
 use borrow.Author.Tests.{ltb-true}
 use Rattle.std.proofs.shelf.Tests.{both-ways}
 use Rattle.crc32c.specs.Crc.{crc}
 use Rattle.sealed.specs.Mask.{masked}
 use Rattle.sealed.specs.Zero.{all-zero}
 use Rattle.sealed.specs.Part.{stored, size, covered, tail}
-use Rattle.sealed.proofs.Parts.{Sealed, part-none, part-some, handed, size-is, stored-is, payload-is, tail-is, covered-is, rest-long}
+use Rattle.sealed.proofs.Parts.{Sealed, part-none, handed, size-is, stored-is, payload-is, tail-is, covered-is, rest-long}
 use Rattle.sealed.proofs.payload.check.Needs as need
 
 pub returns-in-rest : need.returns-in-rest

@@ -4,7 +4,7 @@ use Prim.Native.Nat.{ℕ, suc, _+_, _-_}
 use native.Mathlib.Omega.{arith}
 use lib.Dec.{leb}
 use lib.ListN.{length, take, drop, replicate}
-use Rattle.answers.specs.Answer.{Answer, answered, refused, if-answered}
+use Rattle.answers.specs.Answer.{Answer, answered, if-answered}
 use Rattle.std.proofs.shelf.Lists.{take-at}
 use Rattle.std.proofs.shelf.Tests.{cond-true, and-from, le-leb}
 use Rattle.crc32c.specs.Crc.{crc}
@@ -41,5 +41,5 @@ returns c =
     record {
       whole = sym done;
       block = made ∙ ap (λ (a : Answer (Unit {0})). if-answered a (sealing p) (c .args .block .now)) (sym done);
-      told = made;
+      told = (omega arith, omega arith, made);
     }

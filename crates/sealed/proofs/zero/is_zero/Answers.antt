@@ -9,7 +9,8 @@ use lib.ListN.{length, getD, drop}
 use Rattle.std.proofs.shelf.Lanes.{length-chunk}
 use Rattle.crc32c.proofs.Chunk.{getD-chunked}
 use Rattle.sealed.specs.Number.{number}
-use Rattle.sealed.proofs.Zeros.{left-none, left-word, number-eight, decided, zeros-number, number-zeros}
+use Rattle.sealed.specs.Zero.{all-zero}
+use Rattle.sealed.proofs.Zeros.{left-none, left-word, number-eight, decided, zeros-number, number-zeros, zeros-decides}
 use Rattle.sealed.proofs.zero.is_zero.Needs as need
 
 pub loop-w-holds : need.loop-w-holds
@@ -36,18 +37,16 @@ returns-then-any-eq0 c =
     let xs : List ℕ = c .args .bytes .now in
     let rest : List ℕ = c .as-chunks .result .1 .now in
     let e : number (drop (c .loop-w .w-index * 8) xs) ≡ number rest = rest-is xs rest (c .loop-w .w-index) (omega arith) (c .as-chunks .ensures .back) in
-    record {
-      value =
-          decided (c .is-zero-rest .result) xs
-          (λ t. c .loop-w .inv .0 (c .if-any-eq0 .taken) (e ∙ zeros-number rest (sym (c .is-zero-rest .ensures .value) ∙ t)))
-          (λ z. c .is-zero-rest .ensures .value ∙ number-zeros rest (sym e ∙ c .loop-w .inv .1 z .1));
-    }
+    let is : c .is-zero-rest .result ≡ all-zero xs =
+    decided (c .is-zero-rest .result) xs
+    (λ t. c .loop-w .inv .0 (c .if-any-eq0 .taken) (e ∙ zeros-number rest (sym (c .is-zero-rest .ensures .value) ∙ t)))
+    (λ z. c .is-zero-rest .ensures .value ∙ number-zeros rest (sym e ∙ c .loop-w .inv .1 z .1)) in
+    record { value = is; told = zeros-decides (c .is-zero-rest .result) xs is }
 
 pub returns-else-any-eq0 : need.returns-else-any-eq0
 returns-else-any-eq0 c =
     let xs : List ℕ = c .args .bytes .now in
-    record {
-      value =
-          decided (eqb (c .loop-w .any) 0) xs (λ t. absurd (c .if-any-eq0 .left (eqb-true (c .loop-w .any) 0 t)))
-          (λ z. eq-eqb (c .loop-w .any) 0 (c .loop-w .inv .1 z .0));
-    }
+    let is : eqb (c .loop-w .any) 0 ≡ all-zero xs =
+    decided (eqb (c .loop-w .any) 0) xs (λ t. absurd (c .if-any-eq0 .left (eqb-true (c .loop-w .any) 0 t)))
+    (λ z. eq-eqb (c .loop-w .any) 0 (c .loop-w .inv .1 z .0)) in
+    record { value = is; told = zeros-decides (eqb (c .loop-w .any) 0) xs is }
