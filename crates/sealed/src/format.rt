@@ -1,4 +1,4 @@
-/// The bytes of a block: a sector, which a drive writes as a whole.
+/// The bytes of a block: a sector of a drive.
 pub const BLOCK: usize = 512;
 /// The place of the kind, from which on the checksum covers.
 pub const KIND: usize = 6;
