@@ -1,3 +1,5 @@
-//! A reader and a writer of the messages that a gateway sends to the book.
+//! A second implementation of the trading core, in plain Rust, written from docs/ alone.
 
+pub mod blocks;
 pub mod messages;
+pub mod policies;

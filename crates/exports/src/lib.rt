@@ -1,6 +1,8 @@
-// The functions that programs in C and Rust link. A slice passes as a pointer and then a length.
+// Functions for callers in C and Rust, which benchmarks and comparisons link. A slice passes as a pointer and then a length.
 
 // the splits of the policies
-pub mod allocation;
+mod allocation;
+// checksums and sealed blocks
+mod blocks;
 // messages read and written
-pub mod messages;
+mod messages;

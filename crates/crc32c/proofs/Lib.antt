@@ -1,0 +1,4 @@
+pub mod Step
+pub mod Word
+pub mod Chunk
+pub mod Burst
