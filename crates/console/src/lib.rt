@@ -16,3 +16,4 @@ pub use table::RefusedDisplay;
 pub use table::Row;
 pub use table::RowDisplay;
 pub use table::StoppedDisplay;
+pub use table::refusal_number;

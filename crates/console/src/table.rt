@@ -1,4 +1,6 @@
 // Rows of the table of messages, and refusals in words.
+ghost use mathlib.Core.Path.{_≡_};
+ghost use Rattle.fix.specs.Refusal.{number-of};
 use crate::feed::Stopped;
 use fix::Command;
 use fix::MessageRefusal;
@@ -64,6 +66,17 @@ pub impl fmt::Display for Stopped as StoppedDisplay {
         let message = self.message;
         let byte = self.byte;
         write!(f, "refused\t{words}\tmessage {message}\tbyte {byte}")
+    }
+}
+
+// The number by which people know a refusal.
+pub fn refusal_number(why: MessageRefusal) -> u32
+    ensures value { λ r. ⌜ r ≡ number-of why ⌝ }
+{
+    match why {
+        MessageRefusal::WrongField { .. } => 11,
+        MessageRefusal::WrongCount => 12,
+        MessageRefusal::WrongSum => 13,
     }
 }
 

@@ -18,6 +18,11 @@ use Rattle.fix.specs.declared.refusal.OutOfRange.the-variants.{Member, Number,
 use Rattle.fix.specs.Command.{Command, NewOrder, Cancel, figures, order-figures, cancel-figures}
 use Rattle.fix.specs.Range.{largest-member, largest-number, largest-lots, largest-price}
 
+abbrev pub number-of : MessageRefusal → ℕ
+number-of (WrongField place) = 11
+number-of WrongCount = 12
+number-of WrongSum = 13
+
 -- 11 with a place: a field is wrong or missing, or bytes follow the last; 12: the count is wrong; 13: the sum is wrong
 abbrev pub refusal : {A : Type 0} → MessageRefusal → Answer A
 refusal (WrongField place) = refused 11 (place ∷ [])
