@@ -25,7 +25,12 @@ fn list(rt: &LibcRuntime) -> Result<(), AnyError> {
     let mut bytes = Vec::new(rt.alloc());
     rt.stdin().read_to_end(&mut bytes)?;
     println!(rt, "block\tis\tpayload\tmessages\trefused")?;
-    let mut seen = Seen { sealed: 0, zero: 0, neither: 0, zero_from: None };
+    let mut seen = Seen {
+        sealed: 0,
+        zero: 0,
+        neither: 0,
+        zero_from: None,
+    };
     let mut count = 0usize;
     for block in bytes.chunks_exact(BLOCK) {
         seen = show(rt, seen, count, block)?;
@@ -36,19 +41,32 @@ fn list(rt: &LibcRuntime) -> Result<(), AnyError> {
     let zero = seen.zero;
     let neither = seen.neither;
     let over = bytes.len() % BLOCK;
-    println!(rt, "total\t{count} blocks\t{sealed} sealed\t{zero} zero\t{neither} neither\t{over} bytes over")?;
+    println!(
+        rt,
+        "total\t{count} blocks\t{sealed} sealed\t{zero} zero\t{neither} neither\t{over} bytes over"
+    )?;
     Ok(())
 }
 
 fn show(rt: &LibcRuntime, seen: Seen, at: usize, block: &[u8]) -> Result<Seen, AnyError> {
     if is_zero(block) {
         let from = seen.zero_from.unwrap_or(at);
-        return Ok(Seen { sealed: seen.sealed, zero: seen.zero.saturating_add(1), neither: seen.neither, zero_from: Some(from) });
+        return Ok(Seen {
+            sealed: seen.sealed,
+            zero: seen.zero.saturating_add(1),
+            neither: seen.neither,
+            zero_from: Some(from),
+        });
     }
     end_zeros(rt, seen, at)?;
     let Some(payload) = check(block) else {
         println!(rt, "{at}\tneither\t-\t-\t-")?;
-        return Ok(Seen { sealed: seen.sealed, zero: seen.zero, neither: seen.neither.saturating_add(1), zero_from: None });
+        return Ok(Seen {
+            sealed: seen.sealed,
+            zero: seen.zero,
+            neither: seen.neither.saturating_add(1),
+            zero_from: None,
+        });
     };
     let size = payload.bytes.len();
     let (messages, refused) = count_messages(payload.bytes);
@@ -56,7 +74,12 @@ fn show(rt: &LibcRuntime, seen: Seen, at: usize, block: &[u8]) -> Result<Seen, A
         None => println!(rt, "{at}\tsealed\t{size}\t{messages}\t-")?,
         Some(number) => println!(rt, "{at}\tsealed\t{size}\t{messages}\t{number}")?,
     }
-    Ok(Seen { sealed: seen.sealed.saturating_add(1), zero: seen.zero, neither: seen.neither, zero_from: None })
+    Ok(Seen {
+        sealed: seen.sealed.saturating_add(1),
+        zero: seen.zero,
+        neither: seen.neither,
+        zero_from: None,
+    })
 }
 
 // Shows a run of zero blocks that ends before block `end`.

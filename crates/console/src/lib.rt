@@ -17,3 +17,6 @@ pub use table::Row;
 pub use table::RowDisplay;
 pub use table::StoppedDisplay;
 pub use table::refusal_number;
+
+#[cfg(test)]
+mod tests;

@@ -6,3 +6,5 @@ mod allocation;
 mod blocks;
 // messages read and written
 mod messages;
+#[cfg(test)]
+mod tests;
