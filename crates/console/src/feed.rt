@@ -6,7 +6,7 @@ use fix::MessageRefusal;
 // the steps
 mod steps;
 
-// The bytes, the place of the next message, and how many messages were taken.
+/// The bytes, the place of the next message, and how many messages were taken.
 #[derive(Clone, Copy)]
 pub struct Feed<'a> {
     bytes: &'a [u8],
@@ -16,12 +16,12 @@ pub struct Feed<'a> {
     ghost fewer: { count ≤ at },
 }
 
-// Where a run of messages stops: nothing says where a message after a wrong one would begin.
+/// Where a run of messages stops: nothing says where a message after a wrong one would begin.
 #[derive(Clone, Copy)]
 pub struct Stopped {
     pub why: MessageRefusal,
-    // the message's count, from 1
+    /// the message's count, from 1
     pub message: usize,
-    // the place of the wrong field, or of the message where its count or its sum is wrong
+    /// the place of the wrong field, or of the message where its count or its sum is wrong
     pub byte: usize,
 }

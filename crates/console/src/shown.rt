@@ -3,7 +3,7 @@ ghost use mathlib.Core.List.{map};
 ghost use mathlib.Core.Path.{_≡_};
 ghost use Rattle.console.specs.Shown.{unshown};
 
-// Turns each | into the byte 1.
+/// Turns each | into the byte 1.
 pub fn unshow(bytes: &mut [u8])
     ensures after { λ _. ⌜ now (bytes .exit) ≡ map unshown (now (bytes .entry)) ⌝ }
 {

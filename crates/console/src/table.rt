@@ -9,7 +9,7 @@ use std::fmt;
 
 pub const HEADER: &str = "number\tkind\tmember\torder\tside\tlots\tprice";
 
-// A command as a row under the header.
+/// A command as a row under the header.
 #[derive(Clone, Copy)]
 pub struct Row(pub Command);
 
@@ -45,7 +45,7 @@ fn side_name(side: Side) -> &'static str {
     }
 }
 
-// A message's refusal: its number, what it means, and the place in the message where that says one.
+/// A message's refusal: its number, what it means, and the place in the message where that says one.
 #[derive(Clone, Copy)]
 pub struct Refused(pub MessageRefusal);
 
@@ -59,7 +59,7 @@ pub impl fmt::Display for Refused as RefusedDisplay {
     }
 }
 
-// Where a run of messages stops: the refusal, the message's count and the byte of the run.
+/// Where a run of messages stops: the refusal, the message's count and the byte of the run.
 pub impl fmt::Display for Stopped as StoppedDisplay {
     fn fmt<W: fmt::Write>(&self, f: &mut fmt::Formatter<W>) -> fmt::Result {
         let words = meaning(self.why);
@@ -69,7 +69,7 @@ pub impl fmt::Display for Stopped as StoppedDisplay {
     }
 }
 
-// The number by which people know a refusal.
+/// The number by which people know a refusal.
 pub fn refusal_number(why: MessageRefusal) -> u32
     ensures value { λ r. ⌜ r ≡ number-of why ⌝ }
 {
@@ -80,7 +80,7 @@ pub fn refusal_number(why: MessageRefusal) -> u32
     }
 }
 
-// The number of a refusal, and what it means.
+/// The number of a refusal, and what it means.
 fn meaning(why: MessageRefusal) -> &'static str {
     match why {
         MessageRefusal::WrongField { .. } => "11\ta field is wrong or missing",

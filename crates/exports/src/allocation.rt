@@ -11,7 +11,7 @@ use allocation::Policy;
 use allocation::ProRata;
 use allocation::ProRataPolicy;
 
-// 0, or the number of the refusal.
+/// 0, or the number of the refusal.
 fn split<P: Policy>(policy: &P, quantity: u32, lots: &[u32], fills: &mut [u32]) -> u32
     ensures value { λ r. ⌜ r ≡ code (tested quantity (now (lots .entry)) (length (now (fills .entry)))) ⌝ }
     ensures writes { λ _. ⌜ now (fills .exit) ≡ if-answered (tested quantity (now (lots .entry)) (length (now (fills .entry)))) (P·Policy .split (now (policy .entry)) quantity (now (lots .entry))) (now (fills .entry)) ⌝ }

@@ -13,7 +13,7 @@ use fix::Side;
 use fix::read;
 use fix::write;
 
-// Reads a message: 0, or the number of the refusal.
+/// Reads a message: 0, or the number of the refusal.
 #[unsafe(no_mangle)]
 pub extern "C" fn lezdamir_refusal(bytes: &[u8]) -> u32
     ensures value { λ r. ⌜ r ≡ code (parse (now (bytes .entry))) ⌝ }
@@ -26,7 +26,7 @@ pub extern "C" fn lezdamir_refusal(bytes: &[u8]) -> u32
     }
 }
 
-// Reads a message: the place of its refusal, 0 where that has none.
+/// Reads a message: the place of its refusal, 0 where that has none.
 #[unsafe(no_mangle)]
 pub extern "C" fn lezdamir_place(bytes: &[u8]) -> usize
     ensures value { λ r. ⌜ r ≡ place-of (parse (now (bytes .entry))) ⌝ }
@@ -37,7 +37,7 @@ pub extern "C" fn lezdamir_place(bytes: &[u8]) -> usize
     }
 }
 
-// Reads a message: the sum of the kind's letter and all figures, 0 where it is refused.
+/// Reads a message: the sum of the kind's letter and all figures, 0 where it is refused.
 #[unsafe(no_mangle)]
 pub extern "C" fn lezdamir_read(bytes: &[u8]) -> u64
     ensures value { λ r. ⌜ r ≡ digest (parse (now (bytes .entry))) ⌝ }
@@ -80,7 +80,7 @@ fn side_of(buys: bool) -> Side
     if buys { Side::Buy } else { Side::Sell }
 }
 
-// Writes the message of an order: its length, or 0 where a figure is out of range or the buffer is too short.
+/// Writes the message of an order: its length, or 0 where a figure is out of range or the buffer is too short.
 #[unsafe(no_mangle)]
 pub extern "C" fn lezdamir_write(
     member: u32,

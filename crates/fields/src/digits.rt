@@ -4,7 +4,7 @@ ghost use Prim.Native.Nat.{_≤_};
 ghost use Rattle.fields.specs.Numeral.{numeral as numeral-of};
 ghost use Rattle.std.specs.Options.{Cases as BySome};
 
-// The number from `low` to `high` that the bytes spell: digits alone, with no zero in front.
+/// The number from `low` to `high` that the bytes spell: digits alone, with no zero in front.
 pub fn numeral(bytes: &[u8], low: u32, high: u32) -> Option<u32>
     ensures value { λ r. ⌜ r ≡ numeral-of low high (now (bytes .entry)) ⌝ }
     ensures range { λ r. ⌜ BySome r (Unit {0}) (λ n. (low ≤ n) × (n ≤ high)) ⌝ }

@@ -4,7 +4,7 @@ ghost use mathlib.Core.Path.{_≡_};
 ghost use Rattle.fields.specs.Kind.{known, tag-of, value-of};
 ghost use Rattle.std.specs.Options.{Cases as BySome};
 
-// A field by its kind, with its value, a part of the bytes that it was read from.
+/// A field by its kind, with its value, a part of the bytes that it was read from.
 #[derive(Clone, Copy)]
 pub enum Field<'a> {
     BeginString(&'a [u8]),
@@ -20,21 +20,21 @@ pub enum Field<'a> {
     Side(&'a [u8]),
 }
 
-// A field, and the place of its first byte.
+/// A field, and the place of its first byte.
 #[derive(Clone, Copy)]
 pub struct Placed<'a> {
     pub field: Field<'a>,
     pub place: usize,
 }
 
-// The field that starts at this place, or should start there, is wrong or missing.
+/// The field that starts at this place, or should start there, is wrong or missing.
 #[derive(Clone, Copy)]
 pub struct WrongField {
     pub place: usize,
 }
 
 impl<'a> Field<'a> {
-    // The field of this tag, if there is one.
+    /// The field of this tag, if there is one.
     pub(crate) fn new(tag: u32, value: &'a [u8]) -> Option<Field<'a>>
         ensures { λ r. ⌜ BySome r (known tag ≡ false) (λ f. (known tag ≡ true) × (tag-of f ≡ tag) × (value-of f ≡ now (value .entry))) ⌝ }
     {
@@ -54,7 +54,7 @@ impl<'a> Field<'a> {
         }
     }
 
-    // The tag by which FIX names the field.
+    /// The tag by which FIX names the field.
     pub fn tag(&self) -> u32
         ensures value { λ r. ⌜ r ≡ tag-of (now (self .entry)) ⌝ }
     {
@@ -73,7 +73,7 @@ impl<'a> Field<'a> {
         }
     }
 
-    // The bytes between "=" and the byte 1.
+    /// The bytes between "=" and the byte 1.
     pub fn value(&self) -> &'a [u8]
         ensures value { λ r. ⌜ now r ≡ value-of (now (self .entry)) ⌝ }
     {

@@ -2,10 +2,10 @@
 ghost use Prim.Native.Nat.{_≤_};
 ghost use lib.ListN.{length};
 
-// the steps, and the laws of fields
+/// the steps, and the laws of fields
 pub mod steps;
 
-// Walks over bytes that it was lent, field by field, and copies none.
+/// Walks over bytes that it was lent, field by field, and copies none.
 #[derive(Clone, Copy)]
 pub struct Reader<'a> {
     bytes: &'a [u8],

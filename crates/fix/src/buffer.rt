@@ -7,14 +7,14 @@ ghost use Rattle.fields.specs.Field.{written};
 ghost use Rattle.fix.specs.Writing.{Wrote, numbers};
 ghost use Rattle.std.specs.Written.{decimal};
 
-// A field with a number.
+/// A field with a number.
 #[derive(Clone, Copy)]
 pub(crate) struct Numbered {
     pub(crate) tag: u32,
     pub(crate) number: u32,
 }
 
-// Fields with numbers, one after the other.
+/// Fields with numbers, one after the other.
 pub(crate) fn put_numbers(out: &mut [u8], at: usize, fields: &[Numbered]) -> usize
     requires room { ⌜ at + length (numbers (now fields)) ≤ length (now out) ⌝ }
     ensures { λ r. ⌜ Wrote (now (out .entry)) (now (out .exit)) at r (numbers (now (fields .entry))) ⌝ }
@@ -36,7 +36,7 @@ pub(crate) fn put_number(out: &mut [u8], at: usize, tag: u32, number: u32) -> us
     put_byte(out, end, 1)
 }
 
-// A field with these bytes.
+/// A field with these bytes.
 pub(crate) fn put_text(out: &mut [u8], at: usize, tag: u32, text: &[u8]) -> usize
     requires room { ⌜ at + length (written tag (now text)) ≤ length (now out) ⌝ }
     ensures { λ r. ⌜ Wrote (now (out .entry)) (now (out .exit)) at r (written tag (now (text .entry))) ⌝ }
@@ -75,7 +75,7 @@ fn put_byte(out: &mut [u8], at: usize, b: u8) -> usize
     at + 1
 }
 
-// How long these fields are.
+/// How long these fields are.
 pub(crate) fn numbers_length(fields: &[Numbered]) -> usize
     requires few { ⌜ length (now fields) ≤ 6 ⌝ }
     ensures value { λ r. ⌜ r ≡ length (numbers (now (fields .entry))) ⌝ }
@@ -88,7 +88,7 @@ pub(crate) fn numbers_length(fields: &[Numbered]) -> usize
     sum
 }
 
-// How many digits a number has.
+/// How many digits a number has.
 fn digits(n: u32) -> usize
     ensures value { λ r. ⌜ r ≡ length (decimal n) ⌝ }
     ensures few { λ r. ⌜ r ≤ 10 ⌝ }

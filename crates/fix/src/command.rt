@@ -7,8 +7,8 @@ pub enum Side {
     Sell,
 }
 
-// A limit order: the member who sends it, the command's number, the member's own number of the order,
-// and what is wanted at which price.
+/// A limit order: the member who sends it, the command's number, the member's own number of the order,
+/// and what is wanted at which price.
 #[derive(Clone, Copy)]
 pub struct NewOrder {
     pub member: u32,
@@ -24,7 +24,7 @@ pub struct NewOrder {
     ghost price_within: { Within largest-price price },
 }
 
-// Removes what rests of the member's order of this number.
+/// Removes what rests of the member's order of this number.
 #[derive(Clone, Copy)]
 pub struct Cancel {
     pub member: u32,

@@ -6,9 +6,9 @@ use crate::command::NewOrder;
 use crate::command::Side;
 use crate::refusal::OutOfRange;
 
-// Each figure starts at 1.
+/// Each figure starts at 1.
 const LARGEST_MEMBER: u32 = 9_999;
-// Of a command, and of an order.
+/// Of a command, and of an order.
 const LARGEST_NUMBER: u32 = 999_999_999;
 
 const LARGEST_LOTS: u32 = 999_999;
@@ -16,7 +16,7 @@ const LARGEST_LOTS: u32 = 999_999;
 const LARGEST_PRICE: u32 = 999_999;
 
 impl NewOrder {
-    // The order of these figures, or the first of them that is out of range.
+    /// The order of these figures, or the first of them that is out of range.
     pub fn new(
         member: u32,
         number: u32,
@@ -54,7 +54,7 @@ impl NewOrder {
 }
 
 impl Cancel {
-    // The cancel of these figures, or the first of them that is out of range.
+    /// The cancel of these figures, or the first of them that is out of range.
     pub fn new(member: u32, number: u32, order: u32) -> Result<Cancel, OutOfRange>
         ensures answer { λ r. ⌜ cancel-answer r ≡ tested-cancel (record { member = member; number = number; order = order }) ⌝ }
     {

@@ -25,8 +25,8 @@ pub(crate) enum Kind {
     Cancel,
 }
 
-// A message whose fields are right, with its count and its sum still to be tested: what fields 9 and 10 say,
-// where the bytes after field 9 begin, and where field 10 begins.
+/// A message whose fields are right, with its count and its sum still to be tested: what fields 9 and 10 say,
+/// where the bytes after field 9 begin, and where field 10 begins.
 #[derive(Clone, Copy)]
 pub(crate) struct Form {
     pub(crate) count: u32,
@@ -56,7 +56,7 @@ pub(crate) fn read_form(reader: &mut Reader<'_>) -> Result<Form, WrongField>
     })
 }
 
-// The kind, and the fields that it has.
+/// The kind, and the fields that it has.
 fn read_command(reader: &mut Reader<'_>) -> Result<Command, WrongField>
     ensures source { λ _. ⌜ source (now (reader .exit)) ≡ source (now (reader .entry)) ⌝ }
     ensures ahead { λ _. ⌜ place-of (now (reader .entry)) ≤ place-of (now (reader .exit)) ⌝ }
@@ -147,7 +147,7 @@ fn read_side(reader: &mut Reader<'_>) -> Result<Side, WrongField>
     }
 }
 
-// Three digits, 000 to 999.
+/// Three digits, 000 to 999.
 fn read_check_sum(reader: &mut Reader<'_>) -> Result<u32, WrongField>
     ensures source { λ _. ⌜ source (now (reader .exit)) ≡ source (now (reader .entry)) ⌝ }
     ensures reads { λ r. ⌜ Reads (step check-sum) (λ n. n) (now (reader .entry)) (now (reader .exit)) r ⌝ }

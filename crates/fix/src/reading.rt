@@ -14,7 +14,7 @@ use crate::refusal::MessageRefusal;
 use crate::refusal::WrongFieldRefused;
 use fields::Reader;
 
-// The command that the bytes, all of them, say.
+/// The command that the bytes, all of them, say.
 pub fn read(bytes: &[u8]) -> Result<Command, MessageRefusal>
     ensures answer { λ r. ⌜ answer r ≡ parse (now (bytes .entry)) ⌝ }
 {
@@ -27,14 +27,14 @@ pub fn read(bytes: &[u8]) -> Result<Command, MessageRefusal>
     check(bytes, &form)
 }
 
-// The first message of a run of bytes: its command, and how many bytes it takes.
+/// The first message of a run of bytes: its command, and how many bytes it takes.
 #[derive(Clone, Copy)]
 pub struct First {
     pub command: Command,
     pub length: usize,
 }
 
-// The first message; what follows it is no fault of it.
+/// The first message; what follows it is no fault of it.
 pub fn read_first(bytes: &[u8]) -> Result<First, MessageRefusal>
     ensures answer { λ r. ⌜ first-answer r ≡ parse-first (now (bytes .entry)) ⌝ }
     ensures inside { λ r. ⌜ Inside (length (now (bytes .entry))) r ⌝ }
@@ -48,7 +48,7 @@ pub fn read_first(bytes: &[u8]) -> Result<First, MessageRefusal>
     })
 }
 
-// Tests the count and the sum.
+/// Tests the count and the sum.
 fn check(bytes: &[u8], form: &Form) -> Result<Command, MessageRefusal>
     requires ordered { ⌜ Ordered (now bytes) (now form) ⌝ }
     ensures answer { λ r. ⌜ answer r ≡ checked (now (bytes .entry)) (form-of (now (bytes .entry)) (now (form .entry))) ⌝ }
@@ -63,7 +63,7 @@ fn check(bytes: &[u8], form: &Form) -> Result<Command, MessageRefusal>
     Ok(form.command)
 }
 
-// The sum of the bytes, modulo 256.
+/// The sum of the bytes, modulo 256.
 pub(crate) fn sum_of(bytes: &[u8]) -> u8
     ensures { λ r. ⌜ r ≡ sum (now (bytes .entry)) % 256 ⌝ }
 {

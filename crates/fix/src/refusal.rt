@@ -3,14 +3,14 @@ ghost use mathlib.Core.Path.{_≡_};
 ghost use Rattle.fix.specs.declared.refusal.MessageRefusal.the-variants as refusals;
 use fields::WrongField;
 
-// Tested in this order: fields, count, sum.
+/// Tested in this order: fields, count, sum.
 #[derive(Clone, Copy)]
 pub enum MessageRefusal {
-    // the field that starts at this place, or should start there, is wrong or missing; or bytes follow the last field there
+    /// the field that starts at this place, or should start there, is wrong or missing; or bytes follow the last field there
     WrongField { place: usize },
-    // BodyLength is not the count of bytes
+    /// BodyLength is not the count of bytes
     WrongCount,
-    // CheckSum is not the sum of bytes
+    /// CheckSum is not the sum of bytes
     WrongSum,
 }
 
@@ -22,13 +22,13 @@ pub impl From<WrongField> for MessageRefusal as WrongFieldRefused {
     }
 }
 
-// The message of this command needs a buffer of this many bytes.
+/// The message of this command needs a buffer of this many bytes.
 #[derive(Clone, Copy)]
 pub struct BufferTooShort {
     pub needed: usize,
 }
 
-// The first figure of a command that is out of its range.
+/// The first figure of a command that is out of its range.
 #[derive(Clone, Copy)]
 pub enum OutOfRange {
     Member,

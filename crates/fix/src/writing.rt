@@ -23,17 +23,17 @@ use crate::command::Side;
 use crate::reading::sum_of;
 use crate::refusal::BufferTooShort;
 
-// No message is longer: a new order with every figure at its largest.
+/// No message is longer: a new order with every figure at its largest.
 pub const LONGEST: usize = 86;
 
-// What a message has besides its body: 8=FIX.4.4, 9 with two digits and 10 with three, each with the byte that ends it.
+/// What a message has besides its body: 8=FIX.4.4, 9 with two digits and 10 with three, each with the byte that ends it.
 const FRAME: usize = 10 + 5 + 7;
 
-// Field 35, with its one letter.
+/// Field 35, with its one letter.
 const KIND: usize = 5;
 
-// Writes the command's message at the front of `out`, whose other bytes stay as they are, and answers its length.
-// Where `out` is too short, nothing is written.
+/// Writes the command's message at the front of `out`, whose other bytes stay as they are, and answers its length.
+/// Where `out` is too short, nothing is written.
 pub fn write(command: &Command, out: &mut [u8]) -> Result<usize, BufferTooShort>
     ensures answer { λ r. ⌜ written-answer r ≡ room (length-of (render (figures (now (command .entry))))) (length-of (now (out .entry))) ⌝ }
     ensures out { λ _. ⌜ now (out .exit) ≡ if-answered (room (length-of (render (figures (now (command .entry))))) (length-of (now (out .entry)))) (over-front (now (out .entry)) (render (figures (now (command .entry))))) (now (out .entry)) ⌝ }
@@ -46,7 +46,7 @@ pub fn write(command: &Command, out: &mut [u8]) -> Result<usize, BufferTooShort>
     Ok(put_message(out, command, body))
 }
 
-// The message, whose body has this length, at the front.
+/// The message, whose body has this length, at the front.
 fn put_message(out: &mut [u8], command: &Command, body: usize) -> usize
     requires body { ⌜ body ≡ length-of (body-by (values-of (figures (now command)))) ⌝ }
     requires room { ⌜ length-of (render (figures (now command))) ≤ length-of (now out) ⌝ }
@@ -60,14 +60,14 @@ fn put_message(out: &mut [u8], command: &Command, body: usize) -> usize
     put_text(out, end, 10, &digits)
 }
 
-// How long the command's message is.
+/// How long the command's message is.
 pub fn length(command: &Command) -> usize
     ensures value { λ r. ⌜ r ≡ length-of (render (figures (now (command .entry)))) ⌝ }
 {
     FRAME + body_length(command)
 }
 
-// From the kind up to field 10.
+/// From the kind up to field 10.
 fn put_body(out: &mut [u8], at: usize, command: &Command) -> usize
     requires room { ⌜ at + length-of (body-by (values-of (figures (now command)))) ≤ length-of (now out) ⌝ }
     ensures { λ r. ⌜ Wrote (now (out .entry)) (now (out .exit)) at r (body-by (values-of (figures (now (command .entry))))) ⌝ }
@@ -78,7 +78,7 @@ fn put_body(out: &mut [u8], at: usize, command: &Command) -> usize
     }
 }
 
-// A kind, and the fields after it.
+/// A kind, and the fields after it.
 fn put_kind(out: &mut [u8], at: usize, letter: &[u8], fields: &[Numbered]) -> usize
     requires room { ⌜ at + length-of (written 35 (now letter) ++ numbers (now fields)) ≤ length-of (now out) ⌝ }
     ensures { λ r. ⌜ Wrote (now (out .entry)) (now (out .exit)) at r (written 35 (now (letter .entry)) ++ numbers (now (fields .entry))) ⌝ }
@@ -97,7 +97,7 @@ fn body_length(command: &Command) -> usize
     }
 }
 
-// The fields after the kind.
+/// The fields after the kind.
 fn order_fields(o: &NewOrder) -> [Numbered; 6]
     ensures { λ r. ⌜ numbers r ≡ shown-row new-order-fields (new-order-values (order-figures (now (o .entry)))) ⌝ }
 {

@@ -5,11 +5,11 @@ use crate::policies::Policy;
 use crate::range::test;
 use crate::refusal::AllocationRefusal;
 
-// First in, first out.
+/// First in, first out.
 #[derive(Clone, Copy, PartialEq, Eq, Debug)]
 pub struct Fifo;
 
-// Each order in turn takes what it can of what is left.
+/// Each order in turn takes what it can of what is left.
 fn fill_in_turn(quantity: u32, lots: &[u32], fills: &mut [u32])
     requires level { ⌜ length (now lots) ≡ length (now fills) ⌝ }
     ensures writes { λ _. ⌜ now (fills .exit) ≡ fifo quantity (now (lots .entry)) ⌝ }

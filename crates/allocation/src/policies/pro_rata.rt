@@ -9,7 +9,7 @@ use crate::policies::Policy;
 use crate::range::test;
 use crate::refusal::AllocationRefusal;
 
-// In proportion to the lots.
+/// In proportion to the lots.
 #[derive(Clone, Copy, PartialEq, Eq, Debug)]
 pub struct ProRata;
 
@@ -24,7 +24,7 @@ fn total_of(lots: &[u32]) -> u64
     total
 }
 
-// Gives each order its share of `trades`, rounded down, and returns what the shares come to.
+/// Gives each order its share of `trades`, rounded down, and returns what the shares come to.
 fn give_shares(trades: u64, total: u64, lots: &[u32], fills: &mut [u32]) -> u64
     requires few { ⌜ length (now lots) ≤ most-orders ⌝ }
     requires level { ⌜ length (now lots) ≡ length (now fills) ⌝ }
@@ -43,7 +43,7 @@ fn give_shares(trades: u64, total: u64, lots: &[u32], fills: &mut [u32]) -> u64
     given
 }
 
-// Deals `more`, the oldest first, over what each order still has. It stops where nothing is left, mostly after a few orders.
+/// Deals `more`, the oldest first, over what each order still has. It stops where nothing is left, mostly after a few orders.
 fn top_up(more: u64, lots: &[u32], fills: &mut [u32])
     requires level { ⌜ length (now lots) ≡ length (now fills) ⌝ }
     requires within { ⌜ Each _≤_ (now fills) (now lots) ⌝ }
@@ -60,7 +60,7 @@ fn top_up(more: u64, lots: &[u32], fills: &mut [u32])
     }
 }
 
-// The three passes: the total, the shares, the remainder.
+/// The three passes: the total, the shares, the remainder.
 fn fill_in_proportion(quantity: u32, lots: &[u32], fills: &mut [u32])
     requires range { ⌜ In-range quantity (now lots) ⌝ }
     requires level { ⌜ length (now lots) ≡ length (now fills) ⌝ }

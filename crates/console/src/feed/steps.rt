@@ -14,7 +14,7 @@ use fix::MessageRefusal;
 use fix::read_first;
 
 impl<'a> Feed<'a> {
-    // The messages of these bytes, from the first on.
+    /// The messages of these bytes, from the first on.
     pub fn new(bytes: &'a [u8]) -> Feed<'a>
         ensures source { λ r. ⌜ source r ≡ now (bytes .entry) ⌝ }
         ensures place { λ r. ⌜ place-of r ≡ 0 ⌝ }
@@ -27,21 +27,21 @@ impl<'a> Feed<'a> {
         }
     }
 
-    // How many bytes were taken.
+    /// How many bytes were taken.
     pub fn place(&self) -> usize
         ensures value { λ r. ⌜ r ≡ place-of (now (self .entry)) ⌝ }
     {
         self.at
     }
 
-    // How many messages were taken.
+    /// How many messages were taken.
     pub fn taken(&self) -> usize
         ensures value { λ r. ⌜ r ≡ taken-of (now (self .entry)) ⌝ }
     {
         self.count
     }
 
-    // The command of the next message; none at the end. A refused message is not taken.
+    /// The command of the next message; none at the end. A refused message is not taken.
     pub fn next(&mut self) -> Option<Result<Command, Stopped>>
         ensures answer { λ r. ⌜ answer r ≡ next (now (self .entry)) ⌝ }
         ensures source { λ _. ⌜ source (now (self .exit)) ≡ source (now (self .entry)) ⌝ }
@@ -68,7 +68,7 @@ impl<'a> Feed<'a> {
     }
 }
 
-// The place of a refusal within its message.
+/// The place of a refusal within its message.
 fn place_in(why: MessageRefusal) -> usize
     ensures { λ r. ⌜ r ≡ place-in why ⌝ }
 {

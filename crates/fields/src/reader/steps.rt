@@ -14,11 +14,11 @@ use crate::field::Placed;
 use crate::field::WrongField;
 use crate::reader::Reader;
 
-// The byte that ends a field.
+/// The byte that ends a field.
 const SOH: u8 = 1;
 
 impl<'a> Reader<'a> {
-    // A reader that stands at the first byte.
+    /// A reader that stands at the first byte.
     pub fn new(bytes: &'a [u8]) -> Reader<'a>
         ensures source { λ r. ⌜ source r ≡ now (bytes .entry) ⌝ }
         ensures start { λ r. ⌜ place-of r ≡ 0 ⌝ }
@@ -26,7 +26,7 @@ impl<'a> Reader<'a> {
         Reader { bytes, at: 0 }
     }
 
-    // Where the reader stands; the bytes that it was given begin at 0.
+    /// Where the reader stands; the bytes that it was given begin at 0.
     pub fn place(&self) -> usize
         ensures value { λ r. ⌜ r ≡ place-of (now (self .entry)) ⌝ }
         ensures inside { λ r. ⌜ r ≤ length (source (now (self .entry))) ⌝ }
@@ -34,7 +34,7 @@ impl<'a> Reader<'a> {
         self.at
     }
 
-    // The field at the reader's place, of any kind. The reader then stands after it, or, where it is wrong, where it stood.
+    /// The field at the reader's place, of any kind. The reader then stands after it, or, where it is wrong, where it stood.
     pub fn next(&mut self) -> Result<Placed<'a>, WrongField>
         ensures answer { λ r. ⌜ answer placed r ≡ at-front (place-of (now (self .entry))) (front (left (now (self .entry)))) ⌝ }
         ensures source { λ _. ⌜ source (now (self .exit)) ≡ source (now (self .entry)) ⌝ }
@@ -50,7 +50,7 @@ impl<'a> Reader<'a> {
         Ok(Placed { field, place })
     }
 
-    // The number from `low` to `high` in the field at the reader's place, which has this tag. The reader then stands after the field, or, where it is wrong, where it stood.
+    /// The number from `low` to `high` in the field at the reader's place, which has this tag. The reader then stands after the field, or, where it is wrong, where it stood.
     pub fn number(&mut self, tag: u32, low: u32, high: u32) -> Result<u32, WrongField>
         ensures answer { λ r. ⌜ answer (λ n. n) r ≡ of-read (place-of (now (self .entry))) (step (number-shape tag low high) (left (now (self .entry)))) ⌝ }
         ensures source { λ _. ⌜ source (now (self .exit)) ≡ source (now (self .entry)) ⌝ }
@@ -74,7 +74,7 @@ impl<'a> Reader<'a> {
     }
 }
 
-// The field that starts at this place, and where it ends.
+/// The field that starts at this place, and where it ends.
 fn field_at<'a>(bytes: &'a [u8], at: usize) -> Option<(Field<'a>, usize)>
     requires inside { ⌜ at ≤ length (now bytes) ⌝ }
     ensures { λ r. ⌜ FieldAt (now (bytes .entry)) at r ⌝ }
@@ -94,7 +94,7 @@ fn field_at<'a>(bytes: &'a [u8], at: usize) -> Option<(Field<'a>, usize)>
     Some((field, at + end + 1))
 }
 
-// The place of the first `x`, or the length where there is none.
+/// The place of the first `x`, or the length where there is none.
 fn find(bytes: &[u8], x: u8) -> usize
     ensures { λ r. ⌜ Found x (now (bytes .entry)) r ⌝ }
 {
@@ -106,7 +106,7 @@ fn find(bytes: &[u8], x: u8) -> usize
     bytes.len()
 }
 
-// Every number's field has one spelling, whatever its tag and its range.
+/// Every number's field has one spelling, whatever its tag and its range.
 pub fn every_spelling_is_read_back() -> u8
     ensures back { λ _. ⌜ Written-is-read ⌝ }
     ensures only { λ _. ⌜ Read-is-written ⌝ }
