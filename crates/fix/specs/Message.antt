@@ -60,6 +60,7 @@ checked bytes f =
     (cond (eqb (f .sum) (sum (take (length bytes - length (f .trailer)) bytes) % 256)) (answered (command-of (f .values))) (refused 13 []))
     (refused 12 [])
 
+-- a place is how much longer the bytes are than what is left of them there
 abbrev pub whole : List ℕ → Read Form → Answer Command
 whole bytes (wrong left) = refused 11 ((length bytes - length left) ∷ [])
 whole bytes (right f []) = checked bytes f
@@ -85,7 +86,7 @@ parse-first bytes = leading bytes (form bytes)
 abbrev pub body-by : List ℕ → List ℕ
 body-by vs = shown-row (kind ∷ fields-of (getD vs 0 0)) vs
 
--- up to field 10
+-- up to field 10 (field 8 says nothing, which is written 0)
 abbrev pub front-by : List ℕ → List ℕ
 front-by vs = shown-row header (0 ∷ length (body-by vs) ∷ []) ++ body-by vs
 
