@@ -1,0 +1,20 @@
+// Drives of 512-byte blocks, by what they show and by what a power cut may leave of them. docs/DRIVES.md has the meaning.
+
+// the sizes
+mod limits;
+// what is refused
+pub mod refusal;
+// blocks copied from memory and to it
+mod blocks;
+// what a drive is, and the drives
+pub mod drives;
+
+pub use drives::Drive;
+pub use drives::ReadDrive;
+pub use drives::image::Image;
+pub use drives::image::ImageReads;
+pub use drives::plain::Plain;
+pub use drives::plain::PlainReads;
+pub use drives::plain::PlainWrites;
+pub use limits::BLOCK_SIZE;
+pub use refusal::DriveRefusal;
