@@ -1,2 +1,4 @@
 pub mod Answers
 pub mod Memory
+pub mod Views
+pub mod Held

@@ -38,3 +38,13 @@ pub(crate) fn copy_in(memory: &mut [u8], at: usize, bytes: &[u8])
     let start = at * BLOCK_SIZE;
     memory[start..start + BLOCK_SIZE].copy_from_slice(bytes);
 }
+
+// Puts block `i` of `from` into block `at` of `memory`.
+pub(crate) fn copy_across(from: &[u8], i: usize, memory: &mut [u8], at: usize)
+    requires there { ⌜ i < whole (length (now from)) ⌝ }
+    requires within { ⌜ at < whole (length (now memory)) ⌝ }
+    ensures puts { λ _. ⌜ now (memory .exit) ≡ put (now (memory .entry)) at (block (now (from .entry)) i) ⌝ }
+{
+    let start = i * BLOCK_SIZE;
+    copy_in(memory, at, &from[start..start + BLOCK_SIZE]);
+}

@@ -7,6 +7,8 @@ ghost use Rattle.drive.specs.Medium.{Visible, Durable, Sized, Sound, medium, W
 ghost use Rattle.drive.specs.Refusal.{answer, tested};
 use crate::refusal::DriveRefusal;
 
+// writes kept aside until a flush
+pub mod held_back;
 // bytes that are lent, and only read
 pub mod image;
 // each write straight onto memory

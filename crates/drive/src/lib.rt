@@ -11,10 +11,14 @@ pub mod drives;
 
 pub use drives::Drive;
 pub use drives::ReadDrive;
+pub use drives::held_back::HeldBack;
+pub use drives::held_back::HeldBackReads;
+pub use drives::held_back::HeldBackWrites;
 pub use drives::image::Image;
 pub use drives::image::ImageReads;
 pub use drives::plain::Plain;
 pub use drives::plain::PlainReads;
 pub use drives::plain::PlainWrites;
 pub use limits::BLOCK_SIZE;
+pub use limits::MOST_HELD;
 pub use refusal::DriveRefusal;

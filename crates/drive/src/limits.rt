@@ -1,2 +1,8 @@
-// A block: what one read or write moves. Common drives write a sector of this size whole or not at all.
+// A block: what one read or write moves.
 pub const BLOCK_SIZE: usize = 512;
+
+// The most blocks that a held-back drive keeps aside: twice as many as a journal may have written and not flushed.
+pub const MOST_HELD: usize = 16;
+
+// Their bytes.
+pub const HELD_BYTES: usize = MOST_HELD * BLOCK_SIZE;
