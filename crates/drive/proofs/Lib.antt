@@ -2,3 +2,5 @@ pub mod Answers
 pub mod Memory
 pub mod Views
 pub mod Held
+pub mod Rows
+pub mod Survival

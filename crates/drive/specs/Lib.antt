@@ -6,3 +6,5 @@ pub mod Plain
 pub mod Place
 pub mod HeldBack
 pub mod Size
+pub mod Zero
+pub mod Promise

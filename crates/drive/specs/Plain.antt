@@ -22,3 +22,6 @@ plain-visible d = bare-visible (vec-items (d .memory))
 
 abbrev pub plain-durable : Plain → Durable
 plain-durable d = bare-durable (vec-items (d .memory))
+
+abbrev pub plain-medium : Plain → Medium
+plain-medium = medium plain-visible plain-durable

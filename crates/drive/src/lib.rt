@@ -8,6 +8,10 @@ pub mod refusal;
 mod blocks;
 // what a drive is, and the drives
 pub mod drives;
+// zeros in every block of any drive
+mod zero;
+// what every drive promises
+mod promises;
 
 pub use drives::Drive;
 pub use drives::ReadDrive;
@@ -21,4 +25,7 @@ pub use drives::plain::PlainReads;
 pub use drives::plain::PlainWrites;
 pub use limits::BLOCK_SIZE;
 pub use limits::MOST_HELD;
+pub use promises::drives_promise;
+pub use promises::tests_are_as_told;
 pub use refusal::DriveRefusal;
+pub use zero::zero_all;

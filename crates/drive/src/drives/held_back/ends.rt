@@ -1,8 +1,9 @@
 ghost use mathlib.Core.Path.{_≡_};
+ghost use Prim.Native.Nat.{ℕ};
 ghost use Rattle.std.specs.Of.Vec.{vec-items};
-ghost use Rattle.drive.specs.HeldBack.{held-medium, all-put-out};
+ghost use Rattle.drive.specs.HeldBack.{held-visible, held-durable, held-medium, all-put-out};
 ghost use Rattle.drive.specs.Medium.{CutAt};
-ghost use Rattle.drive.specs.Plain.{bare};
+ghost use Rattle.drive.specs.Plain.{bare-visible, bare};
 use crate::drives::held_back::HeldBack;
 use crate::limits::HELD_BYTES;
 use crate::limits::MOST_HELD;
@@ -12,6 +13,8 @@ impl HeldBack {
     pub fn new(memory: Vec<u8>) -> Self
         ensures memory { λ r. ⌜ r .memory ≡ memory ⌝ }
         ensures none { λ r. ⌜ r .held ≡ 0 ⌝ }
+        ensures shows { λ r. ⌜ held-visible r ≡ bare-visible (vec-items memory) ⌝ }
+        ensures settles { λ r. ⌜ ((b : ℕ) → held-durable r .settled b) ⌝ }
     {
         HeldBack {
             memory,
