@@ -1,4 +1,4 @@
-pub mod Answers
+pub mod Tested
 pub mod Memory
 pub mod Views
 pub mod Held

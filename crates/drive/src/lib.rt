@@ -13,6 +13,10 @@ mod zero;
 // what every drive promises
 mod promises;
 
+// examples that are run
+#[cfg(test)]
+mod tests;
+
 pub use drives::Drive;
 pub use drives::ReadDrive;
 pub use drives::held_back::HeldBack;

@@ -1,7 +1,7 @@
 // A block: what one read or write moves.
 pub const BLOCK_SIZE: usize = 512;
 
-// The most blocks that a held-back drive keeps aside: twice as many as a journal may have written and not flushed.
+// The most blocks that a held-back drive keeps aside. With their bytes, 8 KiB, it still fits on a stack.
 pub const MOST_HELD: usize = 16;
 
 // Their bytes.

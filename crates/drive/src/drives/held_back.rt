@@ -1,8 +1,8 @@
 ghost use mathlib.Core.Path.{_≡_};
-ghost use Prim.Native.Nat.{_≤_};
+ghost use Prim.Native.Nat.{_*_, _≤_};
 ghost use lib.ListN.{length};
 ghost use Rattle.std.specs.Of.Vec.{vec-items};
-ghost use Rattle.drive.specs.Block.{whole};
+ghost use Rattle.drive.specs.Block.{block-size, whole};
 ghost use Rattle.drive.specs.Place.{most-held, Apart, Below};
 use crate::limits::HELD_BYTES;
 use crate::limits::MOST_HELD;
@@ -27,7 +27,7 @@ pub struct HeldBack {
     places: [usize; MOST_HELD],
     // how many are held
     held: usize,
-    ghost sized: { length store ≡ 8192 },
+    ghost sized: { length store ≡ most-held * block-size },
     ghost few: { held ≤ most-held },
     ghost below: { Below places held (whole (length (vec-items memory))) },
     ghost apart: { Apart places held },

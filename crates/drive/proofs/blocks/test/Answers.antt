@@ -1,5 +1,5 @@
 use mathlib.Core.Path.{sym}
-use Rattle.drive.proofs.Answers.{tests}
+use Rattle.drive.proofs.Tested.{tests}
 use Rattle.drive.proofs.blocks.test.Needs as need
 
 pub returns-then-at-count : need.returns-then-at-count

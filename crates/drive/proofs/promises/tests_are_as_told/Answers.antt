@@ -1,4 +1,4 @@
-use Rattle.drive.proofs.Answers.{tests}
+use Rattle.drive.proofs.Tested.{tests}
 use Rattle.drive.proofs.promises.tests_are_as_told.Needs as need
 
 pub returns : need.returns

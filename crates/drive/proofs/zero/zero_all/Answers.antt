@@ -7,7 +7,7 @@ use Rattle.std.proofs.shelf.Tests.{cases-eq}
 use Rattle.drive.specs.Act.{Act, write, flush, Acted, Does}
 use Rattle.drive.specs.Medium.{medium, Written}
 use Rattle.drive.specs.Zero.{zeros, zeroing, zeroing-all}
-use Rattle.drive.proofs.Answers.{passed-case}
+use Rattle.drive.proofs.Tested.{passed-case}
 use Rattle.drive.proofs.Rows.{does-none, does-more}
 use Rattle.drive.proofs.zero.zero_all.Needs as need
 

@@ -36,6 +36,7 @@ impl HeldBack {
         ensures items { λ r. ⌜ vec-items r ≡ all-put-out self ⌝ }
     {
         self.put_all_out();
+        // nothing is held now, so nothing is lost
         self.power_cut()
     }
 

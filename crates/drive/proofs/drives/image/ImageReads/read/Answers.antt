@@ -1,5 +1,5 @@
 use native.Mathlib.Omega.{arith}
-use Rattle.drive.proofs.Answers.{passed}
+use Rattle.drive.proofs.Tested.{passed}
 use Rattle.drive.proofs.drives.image.ImageReads.read.Needs as need
 
 pub copy-out-requires : need.copy-out-requires

@@ -1,7 +1,7 @@
 use mathlib.Core.Path.{ap}
 use native.Mathlib.Omega.{arith}
 use lib.ListN.{length}
-use Rattle.drive.proofs.Answers.{passed}
+use Rattle.drive.proofs.Tested.{passed}
 use Rattle.drive.proofs.drives.plain.PlainReads.read.Needs as need
 
 pub copy-out-requires : need.copy-out-requires

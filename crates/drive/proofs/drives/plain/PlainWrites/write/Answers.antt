@@ -4,7 +4,7 @@ use native.Mathlib.Omega.{arith}
 use lib.ListN.{length}
 use Rattle.drive.specs.Block.{whole, put}
 use Rattle.drive.specs.Refusal.{tested}
-use Rattle.drive.proofs.Answers.{passed, if-passed}
+use Rattle.drive.proofs.Tested.{passed, if-passed}
 use Rattle.drive.proofs.Memory.{refilled-put, bare-written}
 use Rattle.drive.proofs.drives.plain.PlainWrites.write.Needs as need
 

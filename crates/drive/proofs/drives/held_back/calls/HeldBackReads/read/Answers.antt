@@ -1,5 +1,5 @@
 use native.Mathlib.Omega.{arith}
-use Rattle.drive.proofs.Answers.{passed}
+use Rattle.drive.proofs.Tested.{passed}
 use Rattle.drive.proofs.drives.held_back.calls.HeldBackReads.read.Needs as need
 
 pub fetch-requires : need.fetch-requires
