@@ -60,10 +60,10 @@ impl HeldBack {
         ensures memory { λ _. ⌜ now (self .exit) .memory ≡ now (self .entry) .memory ⌝ }
         ensures numbers { λ _. ⌜ held-numbers (now (self .exit)) ≡ held-numbers (now (self .entry)) ++ at ∷ [] ⌝ }
     {
-        let i = self.held;
-        copy_in(&mut self.store, i, bytes);
-        self.places[i] = at;
-        self.held = i + 1;
+        let next = self.held;
+        copy_in(&mut self.store, next, bytes);
+        self.places[next] = at;
+        self.held = next + 1;
     }
 
     // Puts out the block that came last.
