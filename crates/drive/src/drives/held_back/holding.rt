@@ -86,7 +86,8 @@ impl HeldBack {
         ensures full { λ _. ⌜ (now (self .entry) .held ≡ most-held → (now (self .exit) .held + 1 ≡ most-held) × (vec-items (now (self .exit) .memory) ≡ last-put-out (now (self .entry)))) ⌝ }
         ensures out { λ _. ⌜ PutOut (now (self .entry)) (now (self .exit)) ⌝ }
     {
-        if self.held == MOST_HELD {
+        let full = self.held == MOST_HELD;
+        if full {
             self.put_last_out();
         }
     }

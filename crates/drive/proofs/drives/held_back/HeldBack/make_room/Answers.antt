@@ -1,8 +1,8 @@
 use native.Mathlib.Omega.{arith}
 use Rattle.drive.proofs.drives.held_back.HeldBack.make_room.Needs as need
 
-pub returns-then-self-eq-MOST-HELD : need.returns-then-self-eq-MOST-HELD
-returns-then-self-eq-MOST-HELD c = record {
+pub returns-then-full : need.returns-then-full
+returns-then-full c = record {
   room = omega arith;
   free = λ h. absurd (omega arith);
   full = λ h. (omega arith, c .put-last-out .ensures .memory);
