@@ -3,9 +3,10 @@ use mathlib.Core.Path.{_≡_, refl, sym, ap, _∙_}
 use mathlib.Core.Bool.{Bool, true, false}
 use mathlib.Core.List.{List, [], _∷_}
 use mathlib.Core.Logic.{⊎-elim}
-use Prim.Native.Nat.{ℕ, zero, suc, _+_, _<_, _≤_}
+use Prim.Native.Nat.{ℕ, zero, suc, _+_, _-_, _*_, _<_, _≤_}
 use native.Mathlib.Omega.{arith}
 use lib.ListN.{length, getD}
+use mir.Val.{boolByte}
 use Rattle.std.specs.declared.cmp.Ordering.{Ordering}
 use Rattle.std.specs.declared.cmp.Ordering.the-variants.{Less}
 use Rattle.std.specs.Orderings.{isLt}
@@ -33,7 +34,7 @@ module _ {K V : Type 0} (order : K → K → Ordering) where
 
 module _ {K V : Type 0} (order : K → K → Ordering) (total : Total order) (ns : List (Node K V)) (up : ascending order ns ≡ true) (key : K) where
   -- the key at i is less: the answer lies past it
-  pub raised : (low high i : ℕ) (e : Node K V) → Between order ns key low high → i < length ns → isLt (order (getD ns i e .key) key) ≡ true → (low′ high′ : ℕ) → low′ ≡ i + 1 → high ≤ high′ → Between order ns key low′ high′
+  raised : (low high i : ℕ) (e : Node K V) → Between order ns key low high → i < length ns → isLt (order (getD ns i e .key) key) ≡ true → (low′ high′ : ℕ) → low′ ≡ i + 1 → high ≤ high′ → Between order ns key low′ high′
   raised low high i e s w less low′ high′ q h =
       let here : (d : Node K V) → order (getD ns i d .key) key ≡ Less = λ d. ap (λ n. order (n .key) key) (getD-default ns i d e w) ∙ less-from _ less in
       record {
@@ -51,13 +52,20 @@ module _ {K V : Type 0} (order : K → K → Ordering) (total : Total order) (ns
       (cases-lt i j)
 
   -- the key at i is not less: the answer lies at i or before
-  pub lowered : (low high i : ℕ) (e : Node K V) → Between order ns key low high → i < length ns → isLt (order (getD ns i e .key) key) ≡ false → (high′ : ℕ) → i ≤ high′ → Between order ns key low high′
+  lowered : (low high i : ℕ) (e : Node K V) → Between order ns key low high → i < length ns → isLt (order (getD ns i e .key) key) ≡ false → (high′ : ℕ) → i ≤ high′ → Between order ns key low high′
   lowered low high i e s w not high′ h =
       record {
         within = s .within;
         below = s .below;
         above = λ j d b in′. not-less-from i (λ d′ w′. ap (λ n. isLt (order (n .key) key)) (getD-default ns i d′ e w′) ∙ not) j d (omega arith) in′;
       }
+
+  -- a step past the key at i where that is less, and none where it is not
+  pub stepped : (low high i step : ℕ) (e : Node K V) (less : Bool) → Between order ns key low high → i < length ns → less ≡ isLt (order (getD ns i e .key) key) → i + 1 ≡ low + step → high + 1 ≡ low + step + step → (low′ : ℕ) → low′ ≡ low + boolByte less * step → Between order ns key low′ (low′ + (step - 1))
+  stepped low high i step e true s w less q h low′ r = raised low high i e s w (sym less) low′ (low′ + (step - 1)) (omega arith) (omega arith)
+  stepped low high i step e false s w less q h low′ r =
+    let p : low′ ≡ low = omega arith in
+    rw p (lowered low high i e s w (sym less) (low + (step - 1)) (omega arith))
 
   -- no key stands from `high′` on
   pub ended : (low high high′ : ℕ) → Between order ns key low high → length ns ≤ high′ → Between order ns key low high′

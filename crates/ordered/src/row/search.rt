@@ -49,8 +49,10 @@ fn count_less<K: Key, V>(nodes: &[Node<K, V>], key: &K, bits: u32) -> usize
     let mut low = 0;
     for bit in (0..bits).rev() {
         let step = 1 << bit;
-        if step <= nodes.len() - low && nodes[low + step - 1].key.compare(key).is_lt() {
-            low += step;
+        if step <= nodes.len() - low {
+            let less = nodes[low + step - 1].key.compare(key).is_lt();
+            // a sum in place of a branch, which no processor could foresee
+            low += (less as usize) << bit;
         }
     }
     low
