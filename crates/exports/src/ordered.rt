@@ -55,87 +55,82 @@ fn look_up_orders(map: &OrderMap<u64>, sought: &[u32]) -> u64 {
     sum
 }
 
-// Each key goes in and comes out again.
-fn change_prices(map: &mut PriceMap<u64>, keys: &[u32]) -> u64 {
+// Each old key comes out, and the new one beside it goes in.
+fn change_prices(map: &mut PriceMap<u64>, old: &[u32], new: &[u32]) -> u64 {
     let mut sum: u64 = 0;
-    for key in keys {
-        let node = Node {
-            key: Price(*key),
-            value: *key as u64,
-        };
-        let _ = map.insert(node);
-        if let Some(node) = map.remove(&Price(*key)) {
+    for (out, into) in old.iter().zip(new) {
+        if let Some(node) = map.remove(&Price(*out)) {
             sum = sum.wrapping_add(node.value);
         }
+        let node = Node {
+            key: Price(*into),
+            value: *into as u64,
+        };
+        let _ = map.insert(node);
     }
     sum
 }
 
-fn change_orders(map: &mut OrderMap<u64>, keys: &[u32]) -> u64 {
+fn change_orders(map: &mut OrderMap<u64>, old: &[u32], new: &[u32]) -> u64 {
     let mut sum: u64 = 0;
-    for key in keys {
-        let node = Node {
-            key: order_id(*key),
-            value: *key as u64,
-        };
-        let _ = map.insert(node);
-        if let Some(node) = map.remove(&order_id(*key)) {
+    for (out, into) in old.iter().zip(new) {
+        if let Some(node) = map.remove(&order_id(*out)) {
             sum = sum.wrapping_add(node.value);
         }
+        let node = Node {
+            key: order_id(*into),
+            value: *into as u64,
+        };
+        let _ = map.insert(node);
     }
     sum
 }
 
-const CAPACITY: usize = 1_025;
+// as many as a hall has orders
+const CAPACITY: usize = 1_024;
 
 #[unsafe(no_mangle)]
-pub extern "C" fn lezdamir_prices_looked_up(heap: Global, keys: &[u32], sought: &[u32], rounds: u32) -> u64 {
+pub extern "C" fn lezdamir_prices_looked_up(heap: Global, keys: &[u32], sought: &[u32]) -> u64 {
     let Ok(mut map) = PriceMap::new(heap, CAPACITY) else {
         return 0;
     };
     fill_prices(&mut map, keys);
-    let mut sum: u64 = 0;
-    for _ in 0..rounds {
-        sum = sum.wrapping_add(look_up_prices(&map, sought));
-    }
-    sum
+    look_up_prices(&map, sought)
 }
 
 #[unsafe(no_mangle)]
-pub extern "C" fn lezdamir_orders_looked_up(heap: Global, keys: &[u32], sought: &[u32], rounds: u32) -> u64 {
+pub extern "C" fn lezdamir_orders_looked_up(heap: Global, keys: &[u32], sought: &[u32]) -> u64 {
     let Ok(mut map) = OrderMap::new(heap, CAPACITY) else {
         return 0;
     };
     fill_orders(&mut map, keys);
-    let mut sum: u64 = 0;
-    for _ in 0..rounds {
-        sum = sum.wrapping_add(look_up_orders(&map, sought));
-    }
-    sum
+    look_up_orders(&map, sought)
 }
 
 #[unsafe(no_mangle)]
-pub extern "C" fn lezdamir_prices_changed(heap: Global, keys: &[u32], fresh: &[u32], rounds: u32) -> u64 {
+pub extern "C" fn lezdamir_prices_changed(
+    heap: Global,
+    keys: &[u32],
+    old: &[u32],
+    new: &[u32],
+) -> u64 {
     let Ok(mut map) = PriceMap::new(heap, CAPACITY) else {
         return 0;
     };
     fill_prices(&mut map, keys);
-    let mut sum: u64 = 0;
-    for _ in 0..rounds {
-        sum = sum.wrapping_add(change_prices(&mut map, fresh));
-    }
-    sum
+    change_prices(&mut map, old, new)
 }
 
 #[unsafe(no_mangle)]
-pub extern "C" fn lezdamir_orders_changed(heap: Global, keys: &[u32], fresh: &[u32], rounds: u32) -> u64 {
+pub extern "C" fn lezdamir_orders_changed(
+    heap: Global,
+    keys: &[u32],
+    old: &[u32],
+    new: &[u32],
+) -> u64 {
     let Ok(mut map) = OrderMap::new(heap, CAPACITY) else {
         return 0;
     };
     fill_orders(&mut map, keys);
-    let mut sum: u64 = 0;
-    for _ in 0..rounds {
-        sum = sum.wrapping_add(change_orders(&mut map, fresh));
-    }
-    sum
+    change_orders(&mut map, old, new)
 }

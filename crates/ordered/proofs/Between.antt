@@ -64,8 +64,8 @@ module _ {K V : Type 0} (order : K → K → Ordering) (total : Total order) (ns
   pub stepped : (low high i step : ℕ) (e : Node K V) (less : Bool) → Between order ns key low high → i < length ns → less ≡ isLt (order (getD ns i e .key) key) → i + 1 ≡ low + step → high + 1 ≡ low + step + step → (low′ : ℕ) → low′ ≡ low + boolByte less * step → Between order ns key low′ (low′ + (step - 1))
   stepped low high i step e true s w less q h low′ r = raised low high i e s w (sym less) low′ (low′ + (step - 1)) (omega arith) (omega arith)
   stepped low high i step e false s w less q h low′ r =
-    let p : low′ ≡ low = omega arith in
-    rw p (lowered low high i e s w (sym less) (low + (step - 1)) (omega arith))
+      let p : low′ ≡ low = omega arith in
+      rw p (lowered low high i e s w (sym less) (low + (step - 1)) (omega arith))
 
   -- no key stands from `high′` on
   pub ended : (low high high′ : ℕ) → Between order ns key low high → length ns ≤ high′ → Between order ns key low high′

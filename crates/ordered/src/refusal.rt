@@ -1,9 +1,7 @@
 use crate::node::Node;
-use crate::node::NodeDebug;
-use crate::node::NodePartialEq;
 
 // Why a node was not put in. It is handed back, and the map is as it was.
-#[derive(PartialEq, Eq, Debug, Drop)]
+#[derive(Drop)]
 pub enum InsertRefusal<K, V> {
     // a node with this key stands there
     KeyIsThere(Node<K, V>),
