@@ -2,13 +2,15 @@
 use mathlib.Core.Path.{_≡_}
 use mathlib.Core.Bool.{true}
 use mathlib.Core.List.{List, []}
-use Prim.Native.Nat.{ℕ, _<_, _+_}
+use Prim.Native.Nat.{ℕ, _<_, _≤_, _+_}
 use lib.ListN.{length, getD}
 use Rattle.std.specs.declared.cmp.Ordering.{Ordering}
 use Rattle.std.specs.declared.cmp.Ordering.the-variants.{Less}
 use Rattle.std.specs.declared.option.Option.the-variants.{Some, None}
 use Rattle.std.specs.Options.{isSome}
+use Rattle.answers.specs.Answer.{answered, refused}
 use Rattle.ordered.specs.declared.node.Node.{Node}
+use Rattle.ordered.specs.Refusal.{insertion}
 use Rattle.ordered.specs.Row.{node-with, lookup, put, without, ascending, first, last}
 
 module _ {K : Type 0} (V : Type 0) (order : K → K → Ordering) where
@@ -38,6 +40,12 @@ module _ {K : Type 0} (V : Type 0) (order : K → K → Ordering) where
     pub put-in : (nodes : List (Node K V)) (node : Node K V) → length (put order node nodes) ≡ length nodes + 1
     pub taken-out : (nodes : List (Node K V)) (key : K) → isSome (node-with order nodes key) ≡ true → length (without order nodes key) + 1 ≡ length nodes
     pub not-there : (nodes : List (Node K V)) (key : K) → node-with order nodes key ≡ None → without order nodes key ≡ nodes
+
+  -- which insertions are refused
+  pub record Insertions : Type 0 where
+    pub there : (capacity : ℕ) (nodes : List (Node K V)) (key : K) → isSome (node-with order nodes key) ≡ true → insertion order capacity nodes key ≡ refused 94 []
+    pub full : (capacity : ℕ) (nodes : List (Node K V)) (key : K) → node-with order nodes key ≡ None → capacity ≤ length nodes → insertion order capacity nodes key ≡ refused 95 []
+    pub fits : (capacity : ℕ) (nodes : List (Node K V)) (key : K) → node-with order nodes key ≡ None → length nodes < capacity → insertion order capacity nodes key ≡ answered tt
 
   -- no key is less than the first, and none greater than the last
   pub record Ends : Type 0 where

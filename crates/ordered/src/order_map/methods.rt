@@ -1,5 +1,7 @@
 ghost use mathlib.Core.Path.{_≡_};
+ghost use mathlib.Core.Bool.{true};
 ghost use mathlib.Core.List.{[]};
+ghost use Prim.Native.Nat.{_≤_};
 ghost use lib.ListN.{length};
 ghost use Rattle.answers.specs.Answer.{if-answered};
 ghost use Rattle.std.specs.Options.{mapped};
@@ -8,8 +10,8 @@ ghost use Rattle.std.specs.Vec.{made, refused};
 ghost use Rattle.ordered.specs.Map.{nodes-by-order, room-by-order};
 ghost use Rattle.ordered.specs.Order.{by-order-id};
 ghost use Rattle.ordered.specs.Place.{At, Gap};
-ghost use Rattle.ordered.specs.Refusal.{answer, handed-back, insertion};
-ghost use Rattle.ordered.specs.Row.{node-with, lookup, found, put, without, first as first-of, last as last-of};
+ghost use Rattle.ordered.specs.Refusal.{answer, handed-back, insertion, Inserted};
+ghost use Rattle.ordered.specs.Row.{node-with, lookup, found, put, without, ascending, first as first-of, last as last-of};
 use crate::key::order_id::OrderId;
 use crate::key::order_id::OrderIdKey;
 use crate::node::Node;
@@ -31,6 +33,7 @@ impl<V> OrderMap<V> {
     // How many nodes the map holds.
     pub fn len(&self) -> usize
         ensures value { λ r. ⌜ r ≡ length (nodes-by-order (now (self .entry))) ⌝ }
+        ensures inside { λ r. ⌜ r ≤ room-by-order (now (self .entry)) ⌝ }
     {
         self.row.len()
     }
@@ -63,6 +66,8 @@ impl<V> OrderMap<V> {
         ensures hands_back { λ r. ⌜ refused r (λ refusal. handed-back refusal ≡ node) ⌝ }
         ensures nodes { λ _. ⌜ nodes-by-order (now (self .exit)) ≡ if-answered (insertion by-order-id (room-by-order (now (self .entry))) (nodes-by-order (now (self .entry))) (node .key)) (put by-order-id node (nodes-by-order (now (self .entry)))) (nodes-by-order (now (self .entry))) ⌝ }
         ensures capacity { λ _. ⌜ room-by-order (now (self .exit)) ≡ room-by-order (now (self .entry)) ⌝ }
+        ensures ascending { λ _. ⌜ ascending by-order-id (nodes-by-order (now (self .exit))) ≡ true ⌝ }
+        ensures told { λ r. ⌜ Inserted by-order-id (room-by-order (now (self .entry))) node (nodes-by-order (now (self .entry))) (nodes-by-order (now (self .exit))) r ⌝ }
     {
         self.row.insert(node)
     }
@@ -72,6 +77,7 @@ impl<V> OrderMap<V> {
         ensures value { λ r. ⌜ r ≡ node-with by-order-id (nodes-by-order (now (self .entry))) (now (key .entry)) ⌝ }
         ensures nodes { λ _. ⌜ nodes-by-order (now (self .exit)) ≡ without by-order-id (nodes-by-order (now (self .entry))) (now (key .entry)) ⌝ }
         ensures capacity { λ _. ⌜ room-by-order (now (self .exit)) ≡ room-by-order (now (self .entry)) ⌝ }
+        ensures ascending { λ _. ⌜ ascending by-order-id (nodes-by-order (now (self .exit))) ≡ true ⌝ }
     {
         self.row.remove(key)
     }

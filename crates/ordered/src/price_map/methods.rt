@@ -1,5 +1,7 @@
 ghost use mathlib.Core.Path.{_≡_};
+ghost use mathlib.Core.Bool.{true};
 ghost use mathlib.Core.List.{[]};
+ghost use Prim.Native.Nat.{_≤_};
 ghost use lib.ListN.{length};
 ghost use Rattle.answers.specs.Answer.{if-answered};
 ghost use Rattle.std.specs.Options.{mapped};
@@ -8,8 +10,8 @@ ghost use Rattle.std.specs.Vec.{made, refused};
 ghost use Rattle.ordered.specs.Map.{nodes-by-price, room-by-price};
 ghost use Rattle.ordered.specs.Order.{by-price};
 ghost use Rattle.ordered.specs.Place.{At, Gap};
-ghost use Rattle.ordered.specs.Refusal.{answer, handed-back, insertion};
-ghost use Rattle.ordered.specs.Row.{node-with, lookup, found, put, without, first as first-of, last as last-of};
+ghost use Rattle.ordered.specs.Refusal.{answer, handed-back, insertion, Inserted};
+ghost use Rattle.ordered.specs.Row.{node-with, lookup, found, put, without, ascending, first as first-of, last as last-of};
 use crate::key::price::Price;
 use crate::key::price::PriceKey;
 use crate::node::Node;
@@ -31,6 +33,7 @@ impl<V> PriceMap<V> {
     // How many nodes the map holds.
     pub fn len(&self) -> usize
         ensures value { λ r. ⌜ r ≡ length (nodes-by-price (now (self .entry))) ⌝ }
+        ensures inside { λ r. ⌜ r ≤ room-by-price (now (self .entry)) ⌝ }
     {
         self.row.len()
     }
@@ -63,6 +66,8 @@ impl<V> PriceMap<V> {
         ensures hands_back { λ r. ⌜ refused r (λ refusal. handed-back refusal ≡ node) ⌝ }
         ensures nodes { λ _. ⌜ nodes-by-price (now (self .exit)) ≡ if-answered (insertion by-price (room-by-price (now (self .entry))) (nodes-by-price (now (self .entry))) (node .key)) (put by-price node (nodes-by-price (now (self .entry)))) (nodes-by-price (now (self .entry))) ⌝ }
         ensures capacity { λ _. ⌜ room-by-price (now (self .exit)) ≡ room-by-price (now (self .entry)) ⌝ }
+        ensures ascending { λ _. ⌜ ascending by-price (nodes-by-price (now (self .exit))) ≡ true ⌝ }
+        ensures told { λ r. ⌜ Inserted by-price (room-by-price (now (self .entry))) node (nodes-by-price (now (self .entry))) (nodes-by-price (now (self .exit))) r ⌝ }
     {
         self.row.insert(node)
     }
@@ -72,6 +77,7 @@ impl<V> PriceMap<V> {
         ensures value { λ r. ⌜ r ≡ node-with by-price (nodes-by-price (now (self .entry))) (now (key .entry)) ⌝ }
         ensures nodes { λ _. ⌜ nodes-by-price (now (self .exit)) ≡ without by-price (nodes-by-price (now (self .entry))) (now (key .entry)) ⌝ }
         ensures capacity { λ _. ⌜ room-by-price (now (self .exit)) ≡ room-by-price (now (self .entry)) ⌝ }
+        ensures ascending { λ _. ⌜ ascending by-price (nodes-by-price (now (self .exit))) ≡ true ⌝ }
     {
         self.row.remove(key)
     }

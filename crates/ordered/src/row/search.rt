@@ -9,9 +9,14 @@ ghost use Rattle.ordered.specs.Place.{Between, At, Gap};
 use crate::key::Key;
 use crate::node::Node;
 
-// Rows of fewer than 2^11 nodes, which is to say all that a hall fills, are searched in a number of steps that is known when the
-// code is compiled, so that it lays the steps out one after another and jumps on no key.
-const SHORT: usize = 1 << 11;
+// Rows of fewer than 2^11 nodes, as those of a hall with its 1,024 orders, are searched in a number of steps that is known when
+// the code is compiled, so that the steps are laid out one after another.
+const SHORT_BITS: u32 = 11;
+
+const SHORT: usize = 1 << SHORT_BITS;
+
+// No row has 2^64 nodes.
+const WORD_BITS: u32 = 64;
 
 // Where the key stands, or, as an error, where it would go.
 pub fn search<K: Key, V>(nodes: &[Node<K, V>], key: &K) -> Result<usize, usize>
@@ -33,9 +38,9 @@ fn place_of<K: Key, V>(nodes: &[Node<K, V>], key: &K) -> usize
     ensures less { λ r. ⌜ Between (K·Key .order) (now (nodes .entry)) (now (key .entry)) r r ⌝ }
 {
     if nodes.len() < SHORT {
-        count_less(nodes, key, 11)
+        count_less(nodes, key, SHORT_BITS)
     } else {
-        count_less(nodes, key, 64)
+        count_less(nodes, key, WORD_BITS)
     }
 }
 

@@ -12,7 +12,7 @@ ghost use Rattle.std.specs.Options.{mapped};
 ghost use Rattle.std.specs.Vec.{made, refused};
 ghost use Rattle.std.specs.Results.{Cases};
 ghost use Rattle.ordered.specs.Place.{At, Gap};
-ghost use Rattle.ordered.specs.Refusal.{answer, handed-back, room, insertion};
+ghost use Rattle.ordered.specs.Refusal.{answer, handed-back, room, insertion, Inserted};
 ghost use Rattle.ordered.specs.Row.{node-with, lookup, found, put, without, ascending, first as first-of, last as last-of};
 use crate::key::Key;
 use crate::node::Node;
@@ -60,6 +60,7 @@ impl<K: Key, V> Row<K, V> {
         ensures nodes { λ _. ⌜ vec-items (now (self .exit) .nodes) ≡ if-answered (insertion (K·Key .order) (now (self .entry) .capacity) (vec-items (now (self .entry) .nodes)) (node .key)) (put (K·Key .order) node (vec-items (now (self .entry) .nodes))) (vec-items (now (self .entry) .nodes)) ⌝ }
         ensures capacity { λ _. ⌜ now (self .exit) .capacity ≡ now (self .entry) .capacity ⌝ }
         ensures ascending { λ _. ⌜ ascending (K·Key .order) (vec-items (now (self .exit) .nodes)) ≡ true ⌝ }
+        ensures told { λ r. ⌜ Inserted (K·Key .order) (now (self .entry) .capacity) node (vec-items (now (self .entry) .nodes)) (vec-items (now (self .exit) .nodes)) r ⌝ }
     {
         match search(self.nodes.as_slice(), &node.key) {
             Ok(_) => Err(InsertRefusal::KeyIsThere(node)),
@@ -102,6 +103,7 @@ impl<K: Key, V> Row<K, V> {
 impl<K, V> Row<K, V> {
     pub fn len(&self) -> usize
         ensures value { λ r. ⌜ r ≡ length (vec-items (now (self .entry) .nodes)) ⌝ }
+        ensures inside { λ r. ⌜ r ≤ now (self .entry) .capacity ⌝ }
     {
         self.nodes.len()
     }

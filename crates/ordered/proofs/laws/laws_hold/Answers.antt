@@ -4,6 +4,7 @@ use Rattle.ordered.specs.Order.{Total}
 use Rattle.ordered.proofs.Orders.{ne-from}
 use Rattle.ordered.proofs.Between.{ascends}
 use Rattle.ordered.proofs.Ascends.{ascending-none, ascending-put, ascending-without}
+use Rattle.ordered.proofs.Insertions.{insertion-there, insertion-full, insertion-fits}
 use Rattle.ordered.proofs.Lookups.{node-none, node-put-same, node-put-other, node-without-same, node-without-other, node-key, length-put, length-without, without-none}
 use Rattle.ordered.proofs.Ends.{first-none, last-none, first-there, last-there, first-least, last-greatest}
 use Rattle.ordered.proofs.laws.laws_hold.Needs as need
@@ -32,6 +33,11 @@ returns g c =
         put-in = λ ns n. length-put order n ns;
         taken-out = length-without order;
         not-there = without-none order;
+      };
+      insertions = record {
+        there = insertion-there order;
+        full = insertion-full order;
+        fits = insertion-fits order;
       };
       ends = record {
         none = first-none;

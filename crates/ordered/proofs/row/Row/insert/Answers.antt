@@ -5,6 +5,7 @@ use borrow.Author.Needs.{needs}
 use lib.ListN.{length}
 use Rattle.answers.specs.Answer.{Answer, refused, if-answered}
 use Rattle.std.specs.Of.Vec.{vec-items, vec-len}
+use Rattle.std.specs.Options.{isSome}
 use Rattle.std.specs.Holes.{inserted}
 use Rattle.ordered.specs.Order.{Total}
 use Rattle.ordered.specs.Place.{At, Gap}
@@ -12,7 +13,7 @@ use Rattle.ordered.specs.Refusal.{room, insertion}
 use Rattle.ordered.specs.Row.{ascending, put}
 use Rattle.ordered.proofs.Ascends.{ascending-put}
 use Rattle.ordered.proofs.Found.{node-at, node-gap, put-gap}
-use Rattle.ordered.proofs.Insertions.{insertion-there, insertion-new, either-way}
+use Rattle.ordered.proofs.Insertions.{insertion-there, insertion-new, either-way, inserted-new}
 use Rattle.ordered.proofs.row.Row.insert.Given as given
 use Rattle.ordered.proofs.row.Row.insert.Needs as need
 
@@ -26,13 +27,15 @@ returns-in-Ok g c =
     let node = c .args .node in
     let place = c .in-Ok .field-0 in
     let at : At order ns (node .key) place = subst (λ ms. At order ms (node .key) place) (c .as-slice .ensures .value) (c .in-Ok .ensures tt .places) in
-    let there : insertion order (c .args .self .now .capacity) ns (node .key) ≡ refused 94 [] = insertion-there order _ ns (node .key) _ (node-at order (total g) ns (c .pre .ascending) (node .key) place node at) in
+    let here = ap isSome (node-at order (total g) ns (c .pre .ascending) (node .key) place node at) in
+    let there : insertion order (c .args .self .now .capacity) ns (node .key) ≡ refused 94 [] = insertion-there order _ ns (node .key) here in
     record {
       answers = sym there;
       hands-back = refl;
       nodes = sym (ap (λ a. if-answered a (put order node ns) ns) there);
       capacity = search needs;
       ascending = c .pre .ascending;
+      told = record { same = refl; there = here; nodes = refl };
     }
 
 pub returns-in-Err : need.returns-in-Err
@@ -53,4 +56,5 @@ returns-in-Err g c =
       nodes = after;
       capacity = c .insert-at .ensures .capacity;
       ascending = subst (λ ms. ascending order ms ≡ true) (sym after) (either-way (insertion order (row .capacity) ns (node .key)) (put order node ns) ns (λ ms. ascending order ms ≡ true) (ascending-put order (total g) node ns none (c .pre .ascending)) (c .pre .ascending));
+      told = inserted-new order (row .capacity) node ns _ none (c .insert-at .result) (c .insert-at .ensures .answers ∙ ap (room (row .capacity)) long) (c .insert-at .ensures .hands-back) (after ∙ ap (λ a. if-answered a (put order node ns) ns) (insertion-new order (row .capacity) ns (node .key) none));
     }
