@@ -6,5 +6,8 @@ mod allocation;
 mod blocks;
 // messages read and written
 mod messages;
+// whole workloads on the ordered maps
+mod ordered;
+
 #[cfg(test)]
 mod tests;

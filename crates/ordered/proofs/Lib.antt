@@ -1,0 +1,7 @@
+pub mod Orders
+pub mod Between
+pub mod Found
+pub mod Ascends
+pub mod Lookups
+pub mod Ends
+pub mod Insertions

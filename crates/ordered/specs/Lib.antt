@@ -1,0 +1,6 @@
+pub mod Order
+pub mod Row
+pub mod Place
+pub mod Refusal
+pub mod Map
+pub mod Law
