@@ -34,18 +34,20 @@ fn order_id(key: u32) -> (u32, u32) {
 }
 
 #[inline(never)]
-fn plain_search<K: Ord>(key_of: impl Fn(u32) -> K, keys: &[u32], sought: &[u32]) -> u64 {
-    let map: BTreeMap<K, u64> = keys.iter().map(|&key| (key_of(key), key as u64)).collect();
-    sought.iter().filter_map(|&key| map.get(&key_of(key))).sum()
+fn plain_search<K: Ord, V: From<u32> + Into<u64> + Copy>(key_of: impl Fn(u32) -> K, keys: &[u32], sought: &[u32]) -> u64 {
+    let map: BTreeMap<K, V> = keys.iter().map(|&key| (key_of(key), key.into())).collect();
+    sought.iter().filter_map(|&key| map.get(&key_of(key))).map(|&value| value.into()).sum()
 }
 
 #[inline(never)]
-fn plain_change<K: Ord>(key_of: impl Fn(u32) -> K, keys: &[u32], old: &[u32], new: &[u32]) -> u64 {
-    let mut map: BTreeMap<K, u64> = keys.iter().map(|&key| (key_of(key), key as u64)).collect();
+fn plain_change<K: Ord, V: From<u32> + Into<u64>>(key_of: impl Fn(u32) -> K, keys: &[u32], old: &[u32], new: &[u32]) -> u64 {
+    let mut map: BTreeMap<K, V> = keys.iter().map(|&key| (key_of(key), key.into())).collect();
     let mut sum = 0;
     for (&out, &into) in old.iter().zip(new) {
-        sum += map.remove(&key_of(out)).unwrap_or(0);
-        map.insert(key_of(into), into as u64);
+        if let Some(value) = map.remove(&key_of(out)) {
+            sum += value.into();
+        }
+        map.insert(key_of(into), into.into());
     }
     sum
 }
@@ -111,9 +113,9 @@ fn main() {
         let sought: Vec<u32> = (0..OPERATIONS).map(|i| if i % 2 == 0 { keys[random.next() as usize % count] } else { new[i] }).collect();
         let search = |workload| proved_search(workload, black_box(keys), black_box(&sought));
         let change = |workload| proved_change(workload, black_box(keys), black_box(old), black_box(new));
-        show("search by price", count, compare(OPERATIONS, || search(lezdamir_prices_looked_up), || plain_search(price, black_box(keys), black_box(&sought))));
-        show("search by order", count, compare(OPERATIONS, || search(lezdamir_orders_looked_up), || plain_search(order_id, black_box(keys), black_box(&sought))));
-        show("removal, insertion by price", count, compare(2 * OPERATIONS, || change(lezdamir_prices_changed), || plain_change(price, black_box(keys), black_box(old), black_box(new))));
-        show("removal, insertion by order", count, compare(2 * OPERATIONS, || change(lezdamir_orders_changed), || plain_change(order_id, black_box(keys), black_box(old), black_box(new))));
+        show("search by price", count, compare(OPERATIONS, || search(lezdamir_prices_looked_up), || plain_search::<_, u32>(price, black_box(keys), black_box(&sought))));
+        show("search by order", count, compare(OPERATIONS, || search(lezdamir_orders_looked_up), || plain_search::<_, u64>(order_id, black_box(keys), black_box(&sought))));
+        show("removal, insertion by price", count, compare(2 * OPERATIONS, || change(lezdamir_prices_changed), || plain_change::<_, u32>(price, black_box(keys), black_box(old), black_box(new))));
+        show("removal, insertion by order", count, compare(2 * OPERATIONS, || change(lezdamir_orders_changed), || plain_change::<_, u64>(order_id, black_box(keys), black_box(old), black_box(new))));
     }
 }

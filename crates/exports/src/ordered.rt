@@ -1,5 +1,6 @@
 // Workloads of the ordered maps: a map cannot pass to C, so each makes its own, and answers a sum that the same work in another
-// language can be held to. Where there is no memory the answer is 0.
+// language can be held to. Where there is no memory the answer is 0. A price has a value of four bytes, as the number of a queue, and
+// an order one of eight.
 use ordered::Node;
 use ordered::OrderId;
 use ordered::OrderMap;
@@ -15,11 +16,11 @@ fn order_id(key: u32) -> OrderId {
     }
 }
 
-fn fill_prices(map: &mut PriceMap<u64>, keys: &[u32]) {
+fn fill_prices(map: &mut PriceMap<u32>, keys: &[u32]) {
     for key in keys {
         let node = Node {
             key: Price(*key),
-            value: *key as u64,
+            value: *key,
         };
         let _ = map.insert(node);
     }
@@ -35,11 +36,11 @@ fn fill_orders(map: &mut OrderMap<u64>, keys: &[u32]) {
     }
 }
 
-fn look_up_prices(map: &PriceMap<u64>, sought: &[u32]) -> u64 {
+fn look_up_prices(map: &PriceMap<u32>, sought: &[u32]) -> u64 {
     let mut sum: u64 = 0;
     for key in sought {
         if let Some(value) = map.get(&Price(*key)) {
-            sum = sum.wrapping_add(*value);
+            sum = sum.wrapping_add(*value as u64);
         }
     }
     sum
@@ -56,15 +57,15 @@ fn look_up_orders(map: &OrderMap<u64>, sought: &[u32]) -> u64 {
 }
 
 // Each old key comes out, and the new one beside it goes in.
-fn change_prices(map: &mut PriceMap<u64>, old: &[u32], new: &[u32]) -> u64 {
+fn change_prices(map: &mut PriceMap<u32>, old: &[u32], new: &[u32]) -> u64 {
     let mut sum: u64 = 0;
     for (out, into) in old.iter().zip(new) {
         if let Some(node) = map.remove(&Price(*out)) {
-            sum = sum.wrapping_add(node.value);
+            sum = sum.wrapping_add(node.value as u64);
         }
         let node = Node {
             key: Price(*into),
-            value: *into as u64,
+            value: *into,
         };
         let _ = map.insert(node);
     }

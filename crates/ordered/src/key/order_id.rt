@@ -7,8 +7,9 @@ use std::cmp::Ordering;
 // The name of an order: the member that sent it, and the member's number for it.
 #[derive(Clone, Copy, PartialEq, Eq, Debug)]
 pub struct OrderId {
-    pub member: u32,
+    // the order stands below the member in memory, so that the two are read as one number
     pub order: u32,
+    pub member: u32,
 }
 
 impl OrderId {
