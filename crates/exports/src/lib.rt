@@ -2,5 +2,7 @@
 
 // the splits of the policies
 pub mod allocation;
+// blocks read and written
+pub mod drives;
 // messages read and written
 pub mod messages;
