@@ -6,7 +6,7 @@ use Prim.Native.Nat.{ℕ, _<_, _≤_}
 use native.Mathlib.Omega.{arith}
 use lib.Dec.{eqb, ltb}
 use Rattle.std.proofs.shelf.Tests.{lt-ltb, le-ltb, eq-eqb, ne-eqb, ltb-true, eqb-true}
-use Rattle.std.specs.Results.{Cases}
+use Rattle.std.specs.Results.{Cases, isOk}
 use Rattle.std.specs.declared.result.Result.{Result}
 use Rattle.std.specs.declared.result.Result.the-variants.{Ok, Err}
 use Rattle.answers.specs.Answer.{Answer, answered, refused, if-answered}
@@ -43,3 +43,8 @@ if-passed count at size new old h e = ap (λ a. if-answered a new old) (tests co
 pub passed-case : (P Q : Type 0) (r : Result (Unit {0}) DriveRefusal) (count at size : ℕ) → at < count → size ≡ block-size → answer r ≡ tested count at size → Cases r (λ _. P) (λ _. Q) → P
 passed-case P Q (Ok u) count at size h e a p = p
 passed-case P Q (Err x) count at size h e a q = absurd (apart (sym (tests count at size .fits h e) ∙ sym a))
+
+-- and it answered `Ok`
+pub passed-ok : (r : Result (Unit {0}) DriveRefusal) (count at size : ℕ) → at < count → size ≡ block-size → answer r ≡ tested count at size → isOk r ≡ true
+passed-ok (Ok u) count at size h e a = refl
+passed-ok (Err x) count at size h e a = absurd (apart (sym (tests count at size .fits h e) ∙ sym a))

@@ -62,7 +62,7 @@ pub record Flushed (d e : Medium) : Type 0 where
   pub settles : (b : ℕ) → b < d .count → e .settled b
 
 -- a power cut at `d` leaves `e`: each block, free of the others, holds a content that may stand there, or junk where it is not settled;
--- what it holds is then shown and settled. `e` may be the meaning of another drive, or of bare memory.
+-- what it holds is then shown and settled. `e` may be the meaning of another drive, or of bare memory; as these are `Sized`, junk has 512 bytes too.
 pub record CutAt (junk : List ℕ → Type 0) (d e : Medium) : Type 0 where
   pub as-many : e .count ≡ d .count
   pub left : (b : ℕ) → b < d .count → d .stands b (e .shown b) ⊎ ((d .settled b → ⊥) × junk (e .shown b))

@@ -4,6 +4,8 @@
 mod allocation;
 // checksums and sealed blocks
 mod blocks;
+// blocks read from drives and written to them
+mod drives;
 // messages read and written
 mod messages;
 // whole workloads on the ordered maps
