@@ -10,6 +10,5 @@ mod drives;
 mod messages;
 // whole workloads on the ordered maps
 mod ordered;
-
 #[cfg(test)]
 mod tests;
