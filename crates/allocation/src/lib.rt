@@ -1,4 +1,5 @@
 // How an incoming order's lots are split over the orders that rest at one price. docs/POLICIES.md has the rules.
+#![tactic(auto)]
 
 // what is refused
 pub mod refusal;

@@ -1,4 +1,6 @@
 // What is on this drive? Reads a journal's image from standard input, and says of each block what it is.
+#![tactic(auto)]
+
 use console::{Feed, refusal_number};
 use sealed::{BLOCK, check, is_zero};
 use std::io::Read;

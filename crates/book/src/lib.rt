@@ -1,4 +1,5 @@
 // The order book: what rests on both sides, found by price and by member and order number, and what commands do to it.
+#![tactic(auto)]
 
 // the book, with its sides and places in step
 mod book;

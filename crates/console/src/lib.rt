@@ -1,4 +1,5 @@
 // What people see: messages taken one by one from a run of bytes, rows of tables, and refusals in words.
+#![tactic(auto)]
 
 // messages back to back
 mod feed;

@@ -1,4 +1,5 @@
 // CRC-32C (Castagnoli) of bytes, proved equal to its definition bit by bit in specs/Crc.antt.
+#![tactic(auto)]
 
 // what is known of every CRC-32C
 mod law;

@@ -1,4 +1,5 @@
 // Drives of 512-byte blocks, by what they show and by what a power cut may leave of them. docs/DRIVES.md has the meaning.
+#![tactic(auto)]
 
 // the sizes
 mod limits;

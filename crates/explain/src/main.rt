@@ -1,4 +1,6 @@
 // What is this message? Each line of standard input is one, shown with | for the byte 1.
+#![tactic(auto)]
+
 use console::{Refused, Row};
 use fix::read;
 use std::io::{BufRead, BufReader};

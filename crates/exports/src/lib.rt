@@ -1,4 +1,5 @@
 // Functions for callers in C and Rust, which benchmarks and comparisons link. A slice passes as a pointer and then a length.
+#![tactic(auto)]
 
 // the splits of the policies
 mod allocation;

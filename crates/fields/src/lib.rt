@@ -1,4 +1,5 @@
 // Fields of FIX messages: a tag, "=", a value and the byte 1.
+#![tactic(auto)]
 
 // the kinds of fields that messages here have, each with its value
 mod field;

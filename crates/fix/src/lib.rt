@@ -1,4 +1,5 @@
 // FIX messages of new orders and cancels, with exactly one spelling for each command.
+#![tactic(auto)]
 
 // commands, with their ranges as invariants
 mod command;

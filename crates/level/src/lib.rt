@@ -1,4 +1,5 @@
 // A price level: the orders that rest at one price, and what a trade makes of them.
+#![tactic(auto)]
 
 // the level, with the lots of its queue together
 mod level;

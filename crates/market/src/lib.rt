@@ -1,4 +1,5 @@
 // What commands do to a market, said of plain values: the entries that tell of it, the definition `put`, and the laws above it.
+#![tactic(auto)]
 
 // what is told of an order
 mod entry;

@@ -1,4 +1,6 @@
 // What did the gateway send? Reads messages, back to back, from standard input, and lists them.
+#![tactic(auto)]
+
 use console::{Feed, HEADER, Row};
 use fix::Command;
 use std::io::Read;

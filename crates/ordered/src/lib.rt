@@ -1,4 +1,5 @@
 // One ordered map for every kind of key whose order is total.
+#![tactic(auto)]
 
 // what a key is, and the two kinds
 mod key;

@@ -1,4 +1,6 @@
 // Trades a day of messages, first in, first out: entries, closing book and totals.
+#![tactic(auto)]
+
 use allocation::Fifo;
 
 fn main(rt: HostRuntime) -> anyhow::Result<()> {

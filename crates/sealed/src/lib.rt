@@ -1,4 +1,5 @@
 // Sealed blocks: 512 bytes that hold one payload under a checksum, each a full record of LevelDB's log format.
+#![tactic(auto)]
 
 // the sizes and places of the format
 mod format;

@@ -1,4 +1,5 @@
 // One side of a book: its levels, best first.
+#![tactic(auto)]
 
 // the side, with its levels, queues and counts in step
 mod book_side;

@@ -1,5 +1,6 @@
 // A day of messages traded under a policy, as a table. No contract can say what a program prints: the gate compares it with what a second
 // implementation printed.
+#![tactic(auto)]
 
 // rows of tables, and totals in words
 mod entries;
