@@ -24,17 +24,17 @@ tagged c =
     let less : c.find-equals.result < c.find-end.result = omega arith in
     at_tag bs a _ c.find-end.ensures some _ c.find-equals.ensures less
 
-pub returns-in-err-tag : goal.returns-in-err-tag
-returns-in-err-tag c =
-    let none = tag_none _ _ _ _ (tagged (goal.at.returns-in-err-tag c).Else-equals-end) c.in-err-tag.ensures.value in
-    rw c.from-residual.ensures none
+pub returns-in_err-tag : goal.returns-in_err-tag
+returns-in_err-tag c =
+    let none = tag_none _ _ _ _ (tagged (goal.at.returns-in_err-tag c).Else-equals-end) c.in_err-tag.ensures.value in
+    rw c.from_residual.ensures none
 
-pub returns-in-err-field : goal.returns-in-err-field
-returns-in-err-field c =
-    let none = tag_unknown _ _ _ _ (tagged (goal.at.returns-in-err-field c).Else-equals-end) _ c.in-ok-tag.ensures.value c.in-err-field.ensures in
-    rw c.from-residual-in-err-field.ensures none
+pub returns-in_err-field : goal.returns-in_err-field
+returns-in_err-field c =
+    let none = tag_unknown _ _ _ _ (tagged (goal.at.returns-in_err-field c).Else-equals-end) _ c.in_ok-tag.ensures.value c.in_err-field.ensures in
+    rw c.from_residual-in_err-field.ensures none
 
 pub returns : goal.returns
 returns c =
-    let new = c.in-ok-field.ensures in
-    (tag_known _ _ _ _ (tagged (goal.at.returns c).Else-equals-end) _ _ _ c.in-ok-tag.ensures.value new.0 new.1 new.2, omega arith, omega arith)
+    let new = c.in_ok-field.ensures in
+    (tag_known _ _ _ _ (tagged (goal.at.returns c).Else-equals-end) _ _ _ c.in_ok-tag.ensures.value new.0 new.1 new.2, omega arith, omega arith)
