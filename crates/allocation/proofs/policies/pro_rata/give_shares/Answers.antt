@@ -5,11 +5,11 @@ use Rattle.allocation.specs.ProRata.{share}
 use Rattle.allocation.specs.Shares.{share_le}
 use Rattle.allocation.proofs.policies.pro_rata.give_shares.Goals as goal
 
-pub overflow-cast-fills : goal.overflow-cast-fills
-overflow-cast-fills c = let le = share_le c.args.trades c.args.total (get_or c.args.lots.now c.loop-i.i 0) c.requires.part in search rules
+pub overflow_cast-fills : goal.overflow_cast-fills
+overflow_cast-fills c = let le = share_le c.args.trades c.args.total (get_or c.args.lots.now c.loop-i.i 0) c.requires.part in search rules
 
-pub overflow-add-given : goal.overflow-add-given
-overflow-add-given c = let le = share_le c.args.trades c.args.total (get_or c.args.lots.now c.loop-i.i 0) c.requires.part in search rules
+pub overflow_add-given : goal.overflow_add-given
+overflow_add-given c = let le = share_le c.args.trades c.args.total (get_or c.args.lots.now c.loop-i.i 0) c.requires.part in search rules
 
 pub loop-i-preserved : goal.loop-i-preserved
 loop-i-preserved c =
