@@ -15,7 +15,7 @@ returns g c =
     let met = g.met.K.Key in
     let total : Total order = record { itself = met.itself; same = met.same; turned = met.turned; transitive = met.transitive } in
     record {
-      looks-up = record {
+      looks_up = record {
         empty = λ key. ap (option_map (λ n. n.value)) (node_none order key);
         put_same = λ ns n. ap (option_map (λ n. n.value)) (node_put_same order total n ns);
         put_other = λ ns n other ne. ap (option_map (λ n. n.value)) (node_put_other order n ns other (ne_from order total n.key other ne));
@@ -23,7 +23,7 @@ returns g c =
         without_other = λ ns key other ne. ap (option_map (λ n. n.value)) (node_without_other order total ns key other (ne_from order total key other ne));
         with_key = node_key order total;
       };
-      keeps-order = record {
+      keeps_order = record {
         ascends = λ ns i j d up. ascends order ns up i j d;
         empty = ascending_none g.row.V.Denot order;
         put_in = λ ns n. ascending_put order total n ns;

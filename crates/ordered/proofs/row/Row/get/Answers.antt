@@ -15,6 +15,6 @@ returns-in-Ok g c =
     let ns = vec_items c.args.self.now.nodes in
     let key = c.args.key.now in
     let place = c.in-Ok.place in
-    let at : At order ns key place = subst (λ ms. At order ms key place) c.as-slice.ensures.value c.in-Ok.ensures.places in
+    let at : At order ns key place = subst (λ ms. At order ms key place) c.as_slice.ensures.value c.in-Ok.ensures.places in
     let r = c.index.result.now in
     record { value = sym (ap (option_map (λ n. n.value)) (node_at order (total g) ns c.requires.ascending key place r at ∙ ap Some (sym c.index.ensures))) }

@@ -6,4 +6,4 @@ use Rattle.ordered.proofs.row.Row.new.Goals as goal
 pub returns : goal.returns
 returns g c =
     let order = g.K.Key.order in
-    record { made = search rules; ascending = ap (ascending order) c.in-ok-nodes.ensures.items ∙ ascending_none g.row.V.Denot order }
+    record { made = search rules; ascending = ap (ascending order) c.in_ok-nodes.ensures.items ∙ ascending_none g.row.V.Denot order }

@@ -16,7 +16,7 @@ returns-in-Ok g c =
     let ns = vec_items c.args.nodes.now in
     let key = c.args.key.now in
     let place = c.in-Ok.place in
-    let at : At order ns key place = subst (λ ms. At order ms key place) c.as-slice.ensures.value c.in-Ok.ensures.places in
+    let at : At order ns key place = subst (λ ms. At order ms key place) c.as_slice.ensures.value c.in-Ok.ensures.places in
     let after = c.remove.ensures.items ∙ removed_at order (total g) ns c.requires.ascending key place c.remove.result at in
     record {
       value = sym (node_at order (total g) ns c.requires.ascending key place c.remove.result at ∙ ap Some (sym c.remove.ensures.value));
@@ -32,7 +32,7 @@ returns-in-Err g c =
     let ns = vec_items c.args.nodes.now in
     let key = c.args.key.now in
     let place = c.in-Err.field-0 in
-    let gap : Gap order ns key place = subst (λ ms. Gap order ms key place) c.as-slice.ensures.value c.in-Err.ensures.places in
+    let gap : Gap order ns key place = subst (λ ms. Gap order ms key place) c.as_slice.ensures.value c.in-Err.ensures.places in
     record {
       value = sym (node_gap order (total g) ns key place gap);
       nodes = sym (without_gap order (total g) ns key place gap);

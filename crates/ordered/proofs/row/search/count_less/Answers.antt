@@ -26,8 +26,8 @@ bit_is false bit h = ap (λ n. n % 18446744073709551616) (zero-mul (2 ^ bit)) �
 pub loop-bit-init : goal.loop-bit-init
 loop-bit-init g c = record { within = omega arith; below = λ i d b. absurd (omega arith); above = λ i d b w. absurd (omega (arith, c.requires.short)) }
 
-pub overflow-sub-nodes : goal.overflow-sub-nodes
-overflow-sub-nodes g c = c.loop-bit.invariant.within
+pub overflow_sub-nodes : goal.overflow_sub-nodes
+overflow_sub-nodes g c = c.loop-bit.invariant.within
 
 pub loop-bit-preserved-then-step-nodes : goal.loop-bit-preserved-then-step-nodes
 loop-bit-preserved-then-step-nodes g c =
@@ -35,7 +35,7 @@ loop-bit-preserved-then-step-nodes g c =
     let step = step_is bit (omega arith) in
     let reach = halves c.loop-bit.bit (omega arith) in
     let some = pow_pos bit in
-    stepped g.K.Key.order (total g) c.args.nodes.now c.requires.ascending c.args.key.now c.loop-bit.low _ _ (2 ^ bit) _ c.is-lt-less.result c.loop-bit.invariant (omega arith) (c.is-lt-less.ensures ∙ ap is_lt c.compare.ensures.value) (omega arith) (omega arith) _ (ap (λ n. c.loop-bit.low + n) (bit_is c.is-lt-less.result bit (omega arith)))
+    stepped g.K.Key.order (total g) c.args.nodes.now c.requires.ascending c.args.key.now c.loop-bit.low _ _ (2 ^ bit) _ c.is_lt-less.result c.loop-bit.invariant (omega arith) (c.is_lt-less.ensures ∙ ap is_lt c.compare.ensures.value) (omega arith) (omega arith) _ (ap (λ n. c.loop-bit.low + n) (bit_is c.is_lt-less.result bit (omega arith)))
 
 pub loop-bit-preserved : goal.loop-bit-preserved
 loop-bit-preserved g c =
