@@ -5,14 +5,14 @@ use Rattle.crc32c.proofs.Step.{steps_add}
 use Rattle.crc32c.proofs.Word.{word, word_value, value_four, by_word, by_looks, looks_four}
 use Rattle.crc32c.proofs.register.over_four.Goals as goal
 
-pub overflow-cast-x-4 : goal.overflow-cast-x-4
-overflow-cast-x-4 c =
-    let lt : bit_xor c.from-le-bytes.result c.args.c < 2 ^ 32 = xor_lt 32 c.from-le-bytes.result c.args.c (omega arith) (omega arith) in
+pub overflow_cast-x-4 : goal.overflow_cast-x-4
+overflow_cast-x-4 c =
+    let lt : bit_xor c.from_le_bytes.result c.args.c < 2 ^ 32 = xor_lt 32 c.from_le_bytes.result c.args.c (omega arith) (omega arith) in
     omega arith
 
 pub entry-requires-4 : goal.entry-requires-4
 entry-requires-4 c =
-    let lt : bit_xor c.from-le-bytes.result c.args.c < 2 ^ 32 = xor_lt 32 c.from-le-bytes.result c.args.c (omega arith) (omega arith) in
+    let lt : bit_xor c.from_le_bytes.result c.args.c < 2 ^ 32 = xor_lt 32 c.from_le_bytes.result c.args.c (omega arith) (omega arith) in
     record { within = omega arith; byte = omega arith }
 
 -- four look-ups, and the register over four bytes
@@ -38,9 +38,9 @@ stepped z s x bs long is =
 pub returns : goal.returns
 returns c =
     let bs : List ℕ = c.args.bytes.now in
-    let w : ℕ = c.from-le-bytes.result in
+    let w : ℕ = c.from_le_bytes.result in
     let x : ℕ = bit_xor w c.args.c in
-    let is : w ≡ word bs = c.from-le-bytes.ensures ∙ sym (value_four bs c.told-bytes) ∙ sym (word_value bs c.fits-bytes) in
+    let is : w ≡ word bs = c.from_le_bytes.ensures ∙ sym (value_four bs c.told-bytes) ∙ sym (word_value bs c.fits-bytes) in
     let lt : x < 2 ^ 32 = xor_lt 32 w c.args.c (omega arith) (omega arith) in
     record {
       value =

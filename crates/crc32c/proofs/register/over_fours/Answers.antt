@@ -9,12 +9,12 @@ loop-w-init c = refl
 pub loop-w-preserved : goal.loop-w-preserved
 unfolding steps
 loop-w-preserved c =
-    chunk_more 4 c.args.bytes.now c.as-chunks.result.0.now c.loop-w.w-index c.loop-w.c c.over-four-c.result _
-    c.as-chunks.ensures.front (omega arith) c.over-four-c.ensures.value c.loop-w.invariant
+    chunk_more 4 c.args.bytes.now c.as_chunks.result.0.now c.loop-w.w-index c.loop-w.c c.over_four-c.result _
+    c.as_chunks.ensures.front (omega arith) c.over_four-c.ensures.value c.loop-w.invariant
 
 pub returns : goal.returns
 returns c = record {
   value =
-      chunk_all 4 c.args.bytes.now c.as-chunks.result.1.now c.loop-w.w-index c.loop-w.c c.over-bytes.result _
-      (omega arith) c.as-chunks.ensures.back c.over-bytes.ensures.value c.loop-w.invariant;
+      chunk_all 4 c.args.bytes.now c.as_chunks.result.1.now c.loop-w.w-index c.loop-w.c c.over_bytes.result _
+      (omega arith) c.as_chunks.ensures.back c.over_bytes.ensures.value c.loop-w.invariant;
 }

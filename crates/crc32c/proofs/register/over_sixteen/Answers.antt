@@ -27,15 +27,15 @@ parts s xs long =
 pub returns : goal.returns
 returns c =
     let xs : List ℕ = c.args.bytes.now in
-    let ws : List (List ℕ) = c.as-chunks.result.0.now in
+    let ws : List (List ℕ) = c.as_chunks.result.0.now in
     let at : (i : ℕ) → i < 4 → get_or ws i [] ≡ chunk (i * 4) 4 xs =
-    λ i lt. ap (λ (t : List (List ℕ)). get_or t i []) c.as-chunks.ensures.front ∙ getD_chunked 4 (length xs / 4) xs i [] (omega arith) in
-    let a : c.over-four-4.result ≡ steps 96 (register c.args.c (chunk 0 4 xs)) =
-    c.over-four-4.ensures.value ∙ ap (λ (t : List ℕ). steps 96 (register c.args.c t)) (at 0 (omega arith)) in
-    let b : c.over-four.result ≡ steps 64 (register 0 (chunk 4 4 xs)) =
-    c.over-four.ensures.value ∙ ap (λ (t : List ℕ). steps 64 (register 0 t)) (at 1 (omega arith)) in
-    let d : c.over-four-2.result ≡ steps 32 (register 0 (chunk 8 4 xs)) =
-    c.over-four-2.ensures.value ∙ ap (λ (t : List ℕ). steps 32 (register 0 t)) (at 2 (omega arith)) in
-    let e : c.over-four-3.result ≡ steps 0 (register 0 (chunk 12 4 xs)) =
-    c.over-four-3.ensures.value ∙ ap (λ (t : List ℕ). steps 0 (register 0 t)) (at 3 (omega arith)) in
+    λ i lt. ap (λ (t : List (List ℕ)). get_or t i []) c.as_chunks.ensures.front ∙ getD_chunked 4 (length xs / 4) xs i [] (omega arith) in
+    let a : c.over_four-4.result ≡ steps 96 (register c.args.c (chunk 0 4 xs)) =
+    c.over_four-4.ensures.value ∙ ap (λ (t : List ℕ). steps 96 (register c.args.c t)) (at 0 (omega arith)) in
+    let b : c.over_four.result ≡ steps 64 (register 0 (chunk 4 4 xs)) =
+    c.over_four.ensures.value ∙ ap (λ (t : List ℕ). steps 64 (register 0 t)) (at 1 (omega arith)) in
+    let d : c.over_four-2.result ≡ steps 32 (register 0 (chunk 8 4 xs)) =
+    c.over_four-2.ensures.value ∙ ap (λ (t : List ℕ). steps 32 (register 0 t)) (at 2 (omega arith)) in
+    let e : c.over_four-3.result ≡ steps 0 (register 0 (chunk 12 4 xs)) =
+    c.over_four-3.ensures.value ∙ ap (λ (t : List ℕ). steps 0 (register 0 t)) (at 3 (omega arith)) in
     record { value = simp (a, b, d, e) (sym (parts c.args.c xs c.told-bytes)) }
