@@ -6,4 +6,4 @@ pub returns : goal.returns
 returns c =
     let start = c.args.i * 512 in
     let n : start + 512 - start ≡ 512 = omega arith in
-    record { puts = c.copy-in.ensures.puts ∙ ap (λ k. put c.args.memory.now c.args.at (take k (drop start c.args.from.now))) n }
+    record { puts = c.copy_in.ensures.puts ∙ ap (λ k. put c.args.memory.now c.args.at (take k (drop start c.args.from.now))) n }

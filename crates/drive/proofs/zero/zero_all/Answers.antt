@@ -22,7 +22,7 @@ loop-b-preserved g c =
     let n = c.count-b-end.ensures.value in
     let within : b < (means d).count = omega (arith, inv.0) in
     let w : Written (means d) b zeros (means e) = passed_case (Written (means d) b zeros (means e)) (e ≡ d) c.write.result (means d).count b _ within refl c.write.ensures.answers c.write.ensures.writes in (
-      w.as-many ∙ inv.0,
+      w.as_many ∙ inv.0,
       (λ k h. elim (cases_eq k b) [
         | inl same ↦ ap (means e).shown same ∙ w.here
         | inr other ↦ (w.others k (omega arith) other).same ∙ inv.1 k (omega arith)

@@ -6,31 +6,25 @@ use Rattle.drive.specs.Memory.{length_put}
 use Rattle.drive.specs.Views.{add_here, add_other, add_below, add_apart, add_absent}
 use Rattle.drive.proofs.drives.held_back.HeldBack.add.Goals as goal
 
-pub invariant-of-self : goal.invariant-of-self
-invariant-of-self c =
+pub invariant_of-self : goal.invariant_of-self
+invariant_of-self c =
     let d = c.args.self.now in
     let room : d.held < length d.places = omega arith in
-    let within : d.held < whole (length d.store) = omega arith in (
-      ap length c.copy-in.ensures.puts ∙ length_put d.store d.held c.args.bytes.now within c.requires.size ∙ d.sized,
-      (
-        omega arith,
-        (
-          add_below d.places d.store d.held c.args.at c.args.bytes.now room within c.requires.size (held_visible d).count d.below c.requires.below,
-          (
-            add_apart d.places d.store d.held c.args.at c.args.bytes.now room within c.requires.size d.apart c.requires.absent,
-            tt,
-          ),
-        ),
-      ),
-    )
+    let within : d.held < whole (length d.store) = omega arith in
+    record {
+      sized = ap length c.copy_in.ensures.puts ∙ length_put d.store d.held c.args.bytes.now within c.requires.size ∙ d.sized;
+      few = omega arith;
+      below = add_below d.places d.store d.held c.args.at c.args.bytes.now room within c.requires.size (held_visible d).count d.below c.requires.below;
+      apart = add_apart d.places d.store d.held c.args.at c.args.bytes.now room within c.requires.size d.apart c.requires.absent;
+    }
 
 pub returns : goal.returns
 returns c =
     let d = c.args.self.now in
     let at = c.args.at in
     let bytes = c.args.bytes.now in
-    let store = c.copy-in.new.memory in
-    let puts = c.copy-in.ensures.puts in
+    let store = c.copy_in.new.memory in
+    let puts = c.copy_in.ensures.puts in
     let places = set d.places d.held at in
     let room : d.held < length d.places = omega arith in
     let within : d.held < whole (length d.store) = omega arith in

@@ -24,12 +24,12 @@ returns-in-Some c =
 pub add-requires : goal.add-requires
 add-requires c =
     let d = c.args.self.now in
-    let m = c.make-room.new.self in
-    let out = c.make-room.ensures.out in
+    let m = c.make_room.new.self in
+    let out = c.make_room.ensures.out in
     record {
-      room = c.make-room.ensures.room;
+      room = c.make_room.ensures.room;
       below = subst (λ n. c.args.at < whole n) (sym out.size) c.requires.below;
-      absent = out_settled d m c.args.at out c.in-default.ensures.finds;
+      absent = out_settled d m c.args.at out c.in_default.ensures.finds;
       size = c.requires.size;
     }
 
@@ -37,10 +37,10 @@ pub returns : goal.returns
 returns c =
     let d = c.args.self.now in
     let at = c.args.at in
-    let m = c.make-room.new.self in
-    let room = c.make-room.ensures in
+    let m = c.make_room.new.self in
+    let room = c.make_room.ensures in
     let added = c.add.ensures in
-    let absent = c.in-default.ensures.finds in
+    let absent = c.in_default.ensures.finds in
     record {
       writes = out_written d m c.add.new.self at c.args.bytes.now room.out added.writes;
       holds = record {

@@ -5,6 +5,9 @@ pub returns-then-full : goal.returns-then-full
 returns-then-full c = record {
   room = omega arith;
   free = λ h. absurd (omega arith);
-  full = λ h. (omega arith, c.put-last-out.ensures.memory);
-  out = c.put-last-out.ensures.out;
+  full = λ h. (omega arith, c.put_last_out.ensures.memory);
+  out = c.put_last_out.ensures.out;
 }
+
+pub returns-else-full-clause-full : goal.returns-else-full-clause-full
+returns-else-full-clause-full c = λ h. absurd (omega arith)

@@ -3,7 +3,7 @@ use Rattle.drive.specs.Held.{out_then, out_all}
 use Rattle.drive.proofs.drives.held_back.HeldBack.put_all_out.Goals as goal
 
 pub loop-self-preserved : goal.loop-self-preserved
-loop-self-preserved c = out_then _ _ _ c.loop-self.invariant c.put-last-out.ensures.out
+loop-self-preserved c = out_then _ _ _ c.loop-self.invariant c.put_last_out.ensures.out
 
 pub returns : goal.returns
 returns c =

@@ -19,10 +19,10 @@ returns c =
     let within : last < whole (length d.store) = omega arith in
     let fits : p < whole (length m) = d.below last (omega arith) in
     let size : length bytes ≡ block_size = bare_sized d.store last within in
-    let put_is : (with_items d.memory c.copy-across.new.memory).items ≡ put m p bytes =
-    refilled_put d.memory _ _ p bytes fits size c.copy-across.ensures.puts c.as-mut-slice.ensures.value in
-    let under : (b : ℕ) → block (with_items d.memory c.copy-across.new.memory).items b ≡ block (put m p bytes) b = λ b. ap (λ x. block x b) put_is in
-    let same : (b : ℕ) → view d.places d.store last b (block (with_items d.memory c.copy-across.new.memory).items b) ≡ (held_visible d).shown b = λ b.
+    let put_is : (with_items d.memory c.copy_across.new.memory).items ≡ put m p bytes =
+    refilled_put d.memory _ _ p bytes fits size c.copy_across.ensures.puts c.as_mut_slice.ensures.value in
+    let under : (b : ℕ) → block (with_items d.memory c.copy_across.new.memory).items b ≡ block (put m p bytes) b = λ b. ap (λ x. block x b) put_is in
+    let same : (b : ℕ) → view d.places d.store last b (block (with_items d.memory c.copy_across.new.memory).items b) ≡ (held_visible d).shown b = λ b.
     ap (view d.places d.store last b) (under b) ∙ out_same d.places d.store m n last is d.apart d.below within b in
     record {
       held = is;
@@ -39,10 +39,15 @@ returns c =
       };
     }
 
-pub invariant-of-self : goal.invariant-of-self
-invariant-of-self c =
+pub invariant_of-self : goal.invariant_of-self
+invariant_of-self c =
     let d = c.args.self.now in
     let last = d.held - 1 in
-    let after = with_items d.memory c.copy-across.new.memory in
+    let after = with_items d.memory c.copy_across.new.memory in
     let long : length after.items ≡ length d.memory.items = sym after.ok.0 ∙ d.memory.ok.0 in
-    (d.sized, (omega arith, ((λ i l. let b = d.below i (omega arith) in omega arith), ((λ i j h e. d.apart i j (h.0, omega (arith, h.1)) e), tt))))
+    record {
+      sized = d.sized;
+      few = omega arith;
+      below = λ i l. let b = d.below i (omega arith) in omega arith;
+      apart = λ i j h e. d.apart i j (h.0, omega (arith, h.1)) e;
+    }

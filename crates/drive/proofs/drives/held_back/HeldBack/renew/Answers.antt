@@ -10,8 +10,8 @@ returns c =
     let i = c.args.i in
     let at = get_or d.places i 0 in
     let bytes = c.args.bytes.now in
-    let store = c.copy-in.new.memory in
-    let puts = c.copy-in.ensures.puts in
+    let store = c.copy_in.new.memory in
+    let puts = c.copy_in.ensures.puts in
     let within : i < whole (length d.store) = omega arith in
     let here : view d.places store d.held at (lies_under d at) ≡ bytes =
     ap (λ s. view d.places s d.held at (lies_under d at)) puts
