@@ -12,7 +12,7 @@ returns c =
     record {
       value =
           ap (λ (t : ℕ). (t + 0xA282_EAD8) % 2 ^ 32)
-          (c.rotate-right.ensures
+          (c.rotate_right.ensures
           ∙ ap (bit_or (x / 2 ^ 15)) up
           ∙ or_shifted_r (x % 2 ^ 15) 17 (x / 2 ^ 15) small
           ∙ add_comm (x % 2 ^ 15 * 2 ^ 17) (x / 2 ^ 15));

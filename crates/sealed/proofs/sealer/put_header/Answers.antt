@@ -23,7 +23,7 @@ unfolding low_bytes
 returns c =
     record {
       after =
-          header c.args.stored c.args.length c.copy-from-slice.new.self c.copy-from-slice-2.new.self c.args.block.now
-          (c.copy-from-slice.ensures.after ∙ c.to-le-bytes.ensures ∙ four c.args.stored)
-          (c.copy-from-slice-2.ensures.after ∙ c.to-le-bytes-2.ensures);
+          header c.args.stored c.args.length c.copy_from_slice.new.self c.copy_from_slice-2.new.self c.args.block.now
+          (c.copy_from_slice.ensures.after ∙ c.to_le_bytes.ensures ∙ four c.args.stored)
+          (c.copy_from_slice-2.ensures.after ∙ c.to_le_bytes-2.ensures);
     }

@@ -10,6 +10,6 @@ returns c =
     record {
       after =
           ap (λ (t : List ℕ). replicate 6 0 ++ (1 ∷ t))
-          (ap (λ (t : List ℕ). t ++ drop k (replicate 505 0)) c.copy-from-slice.ensures.after
+          (ap (λ (t : List ℕ). t ++ drop k (replicate 505 0)) c.copy_from_slice.ensures.after
           ∙ ap (λ (t : List ℕ). p ++ t) (drop-replicate k 505 0 ∙ ap (λ (n : ℕ). replicate (505 - n) 0) e));
     }

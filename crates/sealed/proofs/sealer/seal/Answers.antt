@@ -30,9 +30,9 @@ returns c =
     let p : List ℕ = c.args.payload.now in
     let done : tested p ≡ answered tt =
     cond-true _ _ _ (and_from (leb 1 (length p)) (leb (length p) 505) (le-leb 1 (length p) (omega arith)) (le-leb (length p) 505 (omega arith))) in
-    let made : c.put-header.new.block ≡ sealing p =
-    sealed p c.put-record.new.block c.put-header.new.block c.checksum.result c.mask-stored.result
-    c.put-record.ensures.after c.checksum.ensures.value c.mask-stored.ensures.value c.put-header.ensures.after in
+    let made : c.put_header.new.block ≡ sealing p =
+    sealed p c.put_record.new.block c.put_header.new.block c.checksum.result c.mask-stored.result
+    c.put_record.ensures.after c.checksum.ensures.value c.mask-stored.ensures.value c.put_header.ensures.after in
     record {
       whole = sym done;
       block = made ∙ ap (λ (a : Answer (Unit {0})). if_answered a (sealing p) c.args.block.now) (sym done);

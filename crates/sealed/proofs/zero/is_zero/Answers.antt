@@ -14,13 +14,13 @@ pub loop-w-preserved : goal.loop-w-preserved
 loop-w-preserved c =
     let xs : List ℕ = c.args.bytes.now in
     let i : ℕ = c.loop-w.w-index in
-    let w : List ℕ = get_or c.as-chunks.result.0.now i [] in
+    let w : List ℕ = get_or c.as_chunks.result.0.now i [] in
     let lt : i < length xs / 8 = omega arith in
     let at : w ≡ chunk (i * 8) 8 xs =
-    ap (λ (t : List (List ℕ)). get_or t i []) c.as-chunks.ensures.front ∙ getD_chunked 8 (length xs / 8) xs i [] lt in
+    ap (λ (t : List (List ℕ)). get_or t i []) c.as_chunks.ensures.front ∙ getD_chunked 8 (length xs / 8) xs i [] lt in
     let long : length w ≡ 8 = ap length at ∙ length-chunk (i * 8) 8 xs (omega arith) in
-    left_word c.loop-w.any i c.from-le-bytes-any.result xs
-    (c.from-le-bytes-any.ensures ∙ sym (number_eight w long) ∙ ap number at) c.loop-w.invariant
+    left_word c.loop-w.any i c.from_le_bytes-any.result xs
+    (c.from_le_bytes-any.ensures ∙ sym (number_eight w long) ∙ ap number at) c.loop-w.invariant
 
 -- past the last word
 rest_is : (xs rest : List ℕ) (i : ℕ) → i ≡ length xs / 8 → rest ≡ drop (length xs / 8 * 8) xs → number (drop (i * 8) xs) ≡ number rest
@@ -29,13 +29,13 @@ rest_is xs rest i e f = ap number (ap (λ (t : ℕ). drop (t * 8) xs) e ∙ sym 
 pub returns-then-any-eq0 : goal.returns-then-any-eq0
 returns-then-any-eq0 c =
     let xs : List ℕ = c.args.bytes.now in
-    let rest : List ℕ = c.as-chunks.result.1.now in
-    let e : number (drop (c.loop-w.w-index * 8) xs) ≡ number rest = rest_is xs rest c.loop-w.w-index (omega arith) c.as-chunks.ensures.back in
-    let is : c.is-zero-rest.result ≡ all_zero xs =
-    decided c.is-zero-rest.result xs
-    (λ t. c.loop-w.invariant.0 c.if-any-eq0.true (e ∙ zeros_number rest (sym c.is-zero-rest.ensures.value ∙ t)))
-    (λ z. c.is-zero-rest.ensures.value ∙ number_zeros rest (sym e ∙ (c.loop-w.invariant.1 z).1)) in
-    record { value = is; told = zeros_decides c.is-zero-rest.result xs is }
+    let rest : List ℕ = c.as_chunks.result.1.now in
+    let e : number (drop (c.loop-w.w-index * 8) xs) ≡ number rest = rest_is xs rest c.loop-w.w-index (omega arith) c.as_chunks.ensures.back in
+    let is : c.is_zero_rest.result ≡ all_zero xs =
+    decided c.is_zero_rest.result xs
+    (λ t. c.loop-w.invariant.0 c.if-any-eq0.true (e ∙ zeros_number rest (sym c.is_zero_rest.ensures.value ∙ t)))
+    (λ z. c.is_zero_rest.ensures.value ∙ number_zeros rest (sym e ∙ (c.loop-w.invariant.1 z).1)) in
+    record { value = is; told = zeros_decides c.is_zero_rest.result xs is }
 
 pub returns-else-any-eq0 : goal.returns-else-any-eq0
 returns-else-any-eq0 c =
