@@ -7,8 +7,8 @@ use Rattle.fix.proofs.buffer.put_numbers.Goals as goal
 pub loop-field-init : goal.loop-field-init
 loop-field-init c = ([], wrote_none _ _, refl)
 
-pub put-number-end-requires : goal.put-number-end-requires
-put-number-end-requires c =
+pub put_number-end-requires : goal.put_number-end-requires
+put_number-end-requires c =
     let so_far = c.loop-field.invariant in
     record { room = next_room c.args.fields.now c.loop-field.field-index c.loop-field-test.true c.args.out.now c.args.at c.requires.room so_far.0 so_far.1 so_far.2 }
 
@@ -16,7 +16,7 @@ pub loop-field-preserved : goal.loop-field-preserved
 loop-field-preserved c =
     let so_far = c.loop-field.invariant in (
       _,
-      wrote_next c.args.fields.now c.loop-field.field-index c.loop-field-test.true c.args.out.now c.args.at c.requires.room so_far.0 so_far.1 so_far.2 c.put-number-end.ensures,
+      wrote_next c.args.fields.now c.loop-field.field-index c.loop-field-test.true c.args.out.now c.args.at c.requires.room so_far.0 so_far.1 so_far.2 c.put_number-end.ensures,
       still_all c.args.fields.now c.loop-field.field-index c.loop-field-test.true c.args.out.now c.args.at c.requires.room so_far.0 so_far.1 so_far.2,
     )
 

@@ -13,7 +13,7 @@ returns-then-form-from c = record {
   placeless = refl;
   answer =
       sym (wrong_sum c.args.bytes.now _ (values_of (figures c.args.form.now.command)) _ _ _ c.requires.ordered.0 c.requires.ordered.1 c.if-form.false
-      (λ z. c.if-form-from.true (z ∙ sym (c.from.ensures ∙ c.sum-of.ensures))));
+      (λ z. c.if-form-from.true (z ∙ sym (c.from.ensures ∙ c.sum_of.ensures))));
 }
 
 pub returns : goal.returns
@@ -21,6 +21,6 @@ returns c =
     let command = figures c.args.form.now.command in
     record {
       placeless = tt;
-      answer = sym (both_right c.args.bytes.now _ (values_of command) _ _ _ c.requires.ordered.0 c.requires.ordered.1 c.if-form.false (c.if-form-from.false ∙ (c.from.ensures ∙ c.sum-of.ensures))
+      answer = sym (both_right c.args.bytes.now _ (values_of command) _ _ _ c.requires.ordered.0 c.requires.ordered.1 c.if-form.false (c.if-form-from.false ∙ (c.from.ensures ∙ c.sum_of.ensures))
           ∙ ap answered (command_back command));
     }

@@ -23,10 +23,10 @@ sized c k n fs is e =
 
 pub returns-in-New : goal.returns-in-New
 returns-in-New c =
-    let s = sized c.args.command.now 68 _ c.order-fields.result (new_order_body c.args.command.now _ _ c.in-New.is c.order-fields.ensures) c.numbers-length.ensures.value in
+    let s = sized c.args.command.now 68 _ c.order_fields.result (new_order_body c.args.command.now _ _ c.in-New.is c.order_fields.ensures) c.numbers_length.ensures.value in
     record { value = s.value; range = s.range }
 
 pub returns-in-Cancel : goal.returns-in-Cancel
 returns-in-Cancel c =
-    let s = sized c.args.command.now 70 _ c.cancel_fields.result (cancel_body c.args.command.now _ _ c.in-Cancel.is c.cancel_fields.ensures) c.numbers-length-in-Cancel.ensures.value in
+    let s = sized c.args.command.now 70 _ c.cancel_fields.result (cancel_body c.args.command.now _ _ c.in-Cancel.is c.cancel_fields.ensures) c.numbers_length-in-Cancel.ensures.value in
     record { value = s.value; range = s.range }

@@ -7,42 +7,42 @@ use Rattle.fix.proofs.Bodies.{head_room, count_room, body-room, end-inside, summ
 use Rattle.fix.proofs.Lengths.{body_length}
 use Rattle.fix.proofs.Values.{commands_are_valid}
 use Rattle.fix.proofs.writing.put_message.Goals as goal
-use Rattle.fix.proofs.writing.put_message.Goals.{After-put-number-end, After-put-body-end, After-sum-of-sum}
+use Rattle.fix.proofs.writing.put_message.Goals.{After-put_number-end, After-put_body-end, After-sum_of-sum}
 
-pub put-text-end-requires : goal.put-text-end-requires
-put-text-end-requires c = record { room = head_room (figures c.args.command.now) (commands_are_valid c.args.command.now) c.args.out.now c.requires.room }
+pub put_text-end-requires : goal.put_text-end-requires
+put_text-end-requires c = record { room = head_room (figures c.args.command.now) (commands_are_valid c.args.command.now) c.args.out.now c.requires.room }
 
-pub overflow-cast-body : goal.overflow-cast-body
-overflow-cast-body c = let size = body_length (figures c.args.command.now) (commands_are_valid c.args.command.now) in omega (arith, c.requires.body)
+pub overflow_cast-body : goal.overflow_cast-body
+overflow_cast-body c = let size = body_length (figures c.args.command.now) (commands_are_valid c.args.command.now) in omega (arith, c.requires.body)
 
-pub put-number-end-requires : goal.put-number-end-requires
-put-number-end-requires c = record {
-  room = subst (λ n. c.put-text-end.result + length (written 9 (decimal n)) ≤ length c.put-text-end.new.out) (sym c.requires.body) (count_room (figures c.args.command.now) (commands_are_valid c.args.command.now) c.args.out.now c.requires.room c.put-text-end.ensures);
+pub put_number-end-requires : goal.put_number-end-requires
+put_number-end-requires c = record {
+  room = subst (λ n. c.put_text-end.result + length (written 9 (decimal n)) ≤ length c.put_text-end.new.out) (sym c.requires.body) (count_room (figures c.args.command.now) (commands_are_valid c.args.command.now) c.args.out.now c.requires.room c.put_text-end.ensures);
 }
 
 -- the count, of the body's length
-counted : (c : After-put-number-end) → Wrote c.put-text-end.new.out c.put-number-end.new.out c.put-text-end.result c.put-number-end.result (written 9 (decimal (length (body_by (values_of (figures c.args.command.now))))))
-counted c = subst (λ n. Wrote c.put-text-end.new.out c.put-number-end.new.out c.put-text-end.result c.put-number-end.result (written 9 (decimal n))) c.requires.body c.put-number-end.ensures
+counted : (c : After-put_number-end) → Wrote c.put_text-end.new.out c.put_number-end.new.out c.put_text-end.result c.put_number-end.result (written 9 (decimal (length (body_by (values_of (figures c.args.command.now))))))
+counted c = subst (λ n. Wrote c.put_text-end.new.out c.put_number-end.new.out c.put_text-end.result c.put_number-end.result (written 9 (decimal n))) c.requires.body c.put_number-end.ensures
 
-pub put-body-end-requires : goal.put-body-end-requires
-put-body-end-requires c = record {
-  room = body-room (figures c.args.command.now) (commands_are_valid c.args.command.now) c.args.out.now c.requires.room c.put-text-end.ensures (counted (goal.at.put-body-end-requires c).After-put-number-end);
+pub put_body-end-requires : goal.put_body-end-requires
+put_body-end-requires c = record {
+  room = body-room (figures c.args.command.now) (commands_are_valid c.args.command.now) c.args.out.now c.requires.room c.put_text-end.ensures (counted (goal.at.put_body-end-requires c).After-put_number-end);
 }
 
-pub slice-bounds-sum-of-end : goal.slice-bounds-sum-of-end
-slice-bounds-sum-of-end c =
-    let inside : c.put-body-end.result ≤ length c.put-body-end.new.out = end-inside (figures c.args.command.now) (commands_are_valid c.args.command.now) c.args.out.now c.requires.room c.put-text-end.ensures (counted (goal.at.slice-bounds-sum-of-end c).After-put-number-end) c.put-body-end.ensures in
+pub slice_bounds-sum_of-end : goal.slice_bounds-sum_of-end
+slice_bounds-sum_of-end c =
+    let inside : c.put_body-end.result ≤ length c.put_body-end.new.out = end-inside (figures c.args.command.now) (commands_are_valid c.args.command.now) c.args.out.now c.requires.room c.put_text-end.ensures (counted (goal.at.slice_bounds-sum_of-end c).After-put_number-end) c.put_body-end.ensures in
     search rules
 
-total : (c : After-sum-of-sum) → c.sum-of-sum.result ≡ sum (front_by (values_of (figures c.args.command.now))) % 256
+total : (c : After-sum_of-sum) → c.sum_of-sum.result ≡ sum (front_by (values_of (figures c.args.command.now))) % 256
 total c =
-    c.sum-of-sum.ensures
-    ∙ ap (λ l. sum l % 256) (summed (figures c.args.command.now) (commands_are_valid c.args.command.now) c.args.out.now c.requires.room c.put-text-end.ensures (counted (goal.at.After-sum-of-sum c).After-put-number-end) c.put-body-end.ensures)
+    c.sum_of-sum.ensures
+    ∙ ap (λ l. sum l % 256) (summed (figures c.args.command.now) (commands_are_valid c.args.command.now) c.args.out.now c.requires.room c.put_text-end.ensures (counted (goal.at.After-sum_of-sum c).After-put_number-end) c.put_body-end.ensures)
 
-pub put-text-requires : goal.put-text-requires
-put-text-requires c = record {
-  room = sum_room (figures c.args.command.now) (commands_are_valid c.args.command.now) c.args.out.now c.requires.room c.put-text-end.ensures (counted (goal.at.put-text-requires c).After-put-number-end) c.put-body-end.ensures c.sum-of-sum.result (total (goal.at.put-text-requires c).After-sum-of-sum);
+pub put_text-requires : goal.put_text-requires
+put_text-requires c = record {
+  room = sum_room (figures c.args.command.now) (commands_are_valid c.args.command.now) c.args.out.now c.requires.room c.put_text-end.ensures (counted (goal.at.put_text-requires c).After-put_number-end) c.put_body-end.ensures c.sum_of-sum.result (total (goal.at.put_text-requires c).After-sum_of-sum);
 }
 
 pub returns : goal.returns
-returns c = whole (figures c.args.command.now) (commands_are_valid c.args.command.now) c.args.out.now c.requires.room c.put-text-end.ensures (counted (goal.at.returns c).After-put-number-end) c.put-body-end.ensures c.sum-of-sum.result (total (goal.at.returns c).After-sum-of-sum) c.put-text.ensures
+returns c = whole (figures c.args.command.now) (commands_are_valid c.args.command.now) c.args.out.now c.requires.room c.put_text-end.ensures (counted (goal.at.returns c).After-put_number-end) c.put_body-end.ensures c.sum_of-sum.result (total (goal.at.returns c).After-sum_of-sum) c.put_text.ensures

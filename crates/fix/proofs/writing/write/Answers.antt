@@ -13,20 +13,20 @@ pub returns-then-out-needed : goal.returns-then-out-needed
 returns-then-out-needed c =
     let b = c.args.out.now in
     let command = figures c.args.command.now in
-    let needed = ap (λ n. 22 + n) c.body-length-body.ensures.value ∙ sym (render_length command (commands_are_valid c.args.command.now)) in
+    let needed = ap (λ n. 22 + n) c.body_length-body.ensures.value ∙ sym (render_length command (commands_are_valid c.args.command.now)) in
     let none = no_room (length (render command)) b (omega (arith, needed, c.if-out-needed.true)) in
     record { answer = ap (λ n. refused 91 (n ∷ [])) needed ∙ sym none; out = ap (λ a. if_answered a (over_front b (render command)) b) (sym none) }
 
-pub put-message-requires : goal.put-message-requires
-put-message-requires c =
+pub put_message-requires : goal.put_message-requires
+put_message-requires c =
     let command = figures c.args.command.now in
-    record { body = c.body-length-body.ensures.value; room = omega (arith, c.body-length-body.ensures.value, render_length command (commands_are_valid c.args.command.now), c.if-out-needed.false) }
+    record { body = c.body_length-body.ensures.value; room = omega (arith, c.body_length-body.ensures.value, render_length command (commands_are_valid c.args.command.now), c.if-out-needed.false) }
 
 pub returns : goal.returns
 returns c =
     let b = c.args.out.now in
     let command = figures c.args.command.now in
-    let w = at_front (render command) c.put-message.ensures in
-    let fits : length (render command) ≤ length b = omega (arith, c.body-length-body.ensures.value, render_length command (commands_are_valid c.args.command.now), c.if-out-needed.false) in
+    let w = at_front (render command) c.put_message.ensures in
+    let fits : length (render command) ≤ length b = omega (arith, c.body_length-body.ensures.value, render_length command (commands_are_valid c.args.command.now), c.if-out-needed.false) in
     let some = some_room (length (render command)) b fits in
     record { answer = ap answered w.0 ∙ sym some; out = w.1 ∙ ap (λ a. if_answered a (over_front b (render command)) b) (sym some) }
