@@ -8,11 +8,11 @@ pub loop-i-preserved : goal.loop-i-preserved
 loop-i-preserved c =
     let lp = c.loop-i in
     let q = c.args.queue.now in (
-      ap (λ xs. xs ++ lots_of (drop (lp.i + 1) q)) c.push-reserved.ensures.items ∙ append_assoc (vec_items lp.lots) _ _ ∙ ap (λ xs. vec_items lp.lots ++ xs) (sym (lots_drop q lp.i _ (omega arith))) ∙ lp.invariant.0,
-      omega (arith, c.push-reserved.ensures.len, lp.invariant.1),
-      omega (arith, c.push-reserved-in-loop-i.ensures.len, lp.invariant.2),
-      c.push-reserved.ensures.capacity ∙ lp.invariant.3,
-      c.push-reserved-in-loop-i.ensures.capacity ∙ lp.invariant.4,
+      ap (λ xs. xs ++ lots_of (drop (lp.i + 1) q)) c.push_reserved.ensures.items ∙ append_assoc (vec_items lp.lots) _ _ ∙ ap (λ xs. vec_items lp.lots ++ xs) (sym (lots_drop q lp.i _ (omega arith))) ∙ lp.invariant.0,
+      omega (arith, c.push_reserved.ensures.len, lp.invariant.1),
+      omega (arith, c.push_reserved-in-loop-i.ensures.len, lp.invariant.2),
+      c.push_reserved.ensures.capacity ∙ lp.invariant.3,
+      c.push_reserved-in-loop-i.ensures.capacity ∙ lp.invariant.4,
     )
 
 pub returns : goal.returns
@@ -22,6 +22,6 @@ returns c =
     record {
       lots = sym (append-nil (vec_items lp.lots)) ∙ ap (λ xs. vec_items lp.lots ++ xs) (sym (lots_end q lp.i (omega arith))) ∙ lp.invariant.0;
       fills = omega (arith, lp.invariant.2);
-      lots-memory = lp.invariant.3 ∙ c.clear.ensures.capacity;
-      fills-memory = lp.invariant.4 ∙ c.clear-2.ensures.capacity;
+      lots_memory = lp.invariant.3 ∙ c.clear.ensures.capacity;
+      fills_memory = lp.invariant.4 ∙ c.clear-2.ensures.capacity;
     }

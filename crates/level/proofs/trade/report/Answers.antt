@@ -10,14 +10,14 @@ use Rattle.level.proofs.trade.report.Goals.{then-fill-gt0, else-fill-gt0}
 pub bounds-queue-i : goal.bounds-queue-i
 bounds-queue-i c = omega (arith, fits_even c.args.fills.now c.args.queue.now c.requires.fit)
 
-pub resting-entry-requires : goal.resting-entry-requires
-resting-entry-requires c = record { within = fits_at c.args.fills.now c.args.queue.now c.loop-i.i _ c.requires.fit c.loop-i-test.true }
+pub resting_entry-requires : goal.resting_entry-requires
+resting_entry-requires c = record { within = fits_at c.args.fills.now c.args.queue.now c.loop-i.i _ c.requires.fit c.loop-i-test.true }
 
-pub incoming-entry-requires : goal.incoming-entry-requires
-incoming-entry-requires c = record { within = omega (arith, c.loop-i.invariant.2, total_drop c.args.fills.now c.loop-i.i c.loop-i-test.true) }
+pub incoming_entry-requires : goal.incoming_entry-requires
+incoming_entry-requires c = record { within = omega (arith, c.loop-i.invariant.2, total_drop c.args.fills.now c.loop-i.i c.loop-i-test.true) }
 
-pub overflow-sub-left : goal.overflow-sub-left
-overflow-sub-left c = omega (arith, c.loop-i.invariant.2, total_drop c.args.fills.now c.loop-i.i c.loop-i-test.true)
+pub overflow_sub-left : goal.overflow_sub-left
+overflow_sub-left c = omega (arith, c.loop-i.invariant.2, total_drop c.args.fills.now c.loop-i.i c.loop-i-test.true)
 
 pub loop-i-preserved : goal.loop-i-preserved
 loop-i-preserved c =
@@ -30,8 +30,8 @@ loop-i-preserved c =
     let none : Resting = record { member = 0; order = 0; lots = 0 } in
     elim c.if-fill-gt0.branch [
       | then-fill-gt0 w ↦
-          let done = wrote_some (order_figures c.args.order.now) c.args.price fs qs lp.i lp.left none h k lp.list _ lp.at w.resting-entry.result w.incoming-entry.result (omega (arith, lp.invariant.4, c.requires.room)) w.if-fill-gt0.true w.resting-entry.ensures.value w.incoming-entry.ensures.value lp.invariant.0 in
-          let back = drop_two lp.list c.args.list.now lp.at w.resting-entry.result w.incoming-entry.result lp.invariant.1 in (
+          let done = wrote_some (order_figures c.args.order.now) c.args.price fs qs lp.i lp.left none h k lp.list _ lp.at w.resting_entry.result w.incoming_entry.result (omega (arith, lp.invariant.4, c.requires.room)) w.if-fill-gt0.true w.resting_entry.ensures.value w.incoming_entry.ensures.value lp.invariant.0 in
+          let back = drop_two lp.list c.args.list.now lp.at w.resting_entry.result w.incoming_entry.result lp.invariant.1 in (
             simp (w.list-is, w.left-is, w.at-is) done,
             simp (w.list-is, w.at-is) back,
             omega (arith, w.left-is, lp.invariant.2, s),

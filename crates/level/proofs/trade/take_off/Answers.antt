@@ -10,8 +10,8 @@ index-order-requires c =
     let q = c.args.queue.now in
     omega (arith, fits_length c.args.fills.now (lots_of (vec_items q)) c.requires.fit, length_lots (vec_items q), q.ok.0)
 
-pub index-mut-requires : goal.index-mut-requires
-index-mut-requires c =
+pub index_mut-requires : goal.index_mut-requires
+index_mut-requires c =
     let q = c.args.queue.now in
     omega (arith, fits_length c.args.fills.now (lots_of (vec_items q)) c.requires.fit, length_lots (vec_items q), q.ok.0)
 

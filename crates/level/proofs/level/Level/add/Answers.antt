@@ -4,24 +4,21 @@ use Rattle.market.specs.Market.{lots_of, total}
 use Rattle.level.proofs.Queues.{total_joined, tradable_joined, tradable_from, total_most}
 use Rattle.level.proofs.level.Level.add.Goals as goal
 
-pub overflow-add-self : goal.overflow-add-self
-overflow-add-self c =
+pub overflow_add-self : goal.overflow_add-self
+overflow_add-self c =
     let level = c.args.self.now in
     let q = vec_items level.queue in
     omega (arith, total_most q level.tradable, level.together, level.few, level.queue.ok.0)
 
-pub invariant-of-self : goal.invariant-of-self
-invariant-of-self c =
+pub invariant_of-self : goal.invariant_of-self
+invariant_of-self c =
     let level = c.args.self.now in
     let q = vec_items level.queue in
     let o = c.args.order in
-    let now = c.push-reserved.ensures.items in (
-      omega (arith, level.together, total_joined q o, ap (λ xs. total (lots_of xs)) now),
-      (
-        ap (λ xs. all_tradable (lots_of xs)) now ∙ tradable_joined q o level.tradable (tradable_from o.lots (omega (arith, c.if-order-eq0.false)) c.if-order-gt-MOST-LOTS.false),
-        (
-          omega (arith, c.push-reserved.ensures.len, c.if-len-eq-MOST-ORDERS.false, c.len.ensures, level.few),
-          (omega (arith, c.push-reserved.ensures.capacity, level.reserved), tt),
-        ),
-      ),
-    )
+    let now = c.push_reserved.ensures.items in
+    record {
+      together = omega (arith, level.together, total_joined q o, ap (λ xs. total (lots_of xs)) now);
+      tradable = ap (λ xs. all_tradable (lots_of xs)) now ∙ tradable_joined q o level.tradable (tradable_from o.lots (omega (arith, c.if-order-eq0.false)) c.if-order-gt-MOST_LOTS.false);
+      few = omega (arith, c.push_reserved.ensures.len, c.if-len-eq-MOST_ORDERS.false, c.len.ensures, level.few);
+      reserved = omega (arith, c.push_reserved.ensures.capacity, level.reserved);
+    }

@@ -7,32 +7,29 @@ use Rattle.market.specs.Put.{out_of_queue}
 use Rattle.level.proofs.Queues.{total_out, tradable_out, taken_is, left_is}
 use Rattle.level.proofs.level.Level.take_out.Goals as goal
 
-pub overflow-sub-self : goal.overflow-sub-self
-overflow-sub-self c =
+pub overflow_sub-self : goal.overflow_sub-self
+overflow_sub-self c =
     let level = c.args.self.now in
     let q = vec_items level.queue in
-    let taken = taken_is c.args.member c.args.order c.as-slice.result.now q c.in-Some.place c.as-slice.ensures.value c.remove-taken.result c.in-Some.ensures.value.2 c.remove-taken.ensures.value in
+    let taken = taken_is c.args.member c.args.order c.as_slice.result.now q c.in-Some.place c.as_slice.ensures.value c.remove-taken.result c.in-Some.ensures.value.2 c.remove-taken.ensures.value in
     omega (arith, level.together, total_out c.args.member c.args.order q c.remove-taken.result taken)
 
-pub invariant-of-self : goal.invariant-of-self
-invariant-of-self c =
+pub invariant_of-self : goal.invariant_of-self
+invariant_of-self c =
     let level = c.args.self.now in
     let q = vec_items level.queue in
-    let taken = taken_is c.args.member c.args.order c.as-slice.result.now q c.in-Some.place c.as-slice.ensures.value c.remove-taken.result c.in-Some.ensures.value.2 c.remove-taken.ensures.value in
-    let left = left_is c.args.member c.args.order c.as-slice.result.now q c.in-Some.place c.as-slice.ensures.value (vec_items c.remove-taken.new.self) c.in-Some.ensures.value.1 c.remove-taken.ensures.items in (
-      omega (arith, level.together, total_out c.args.member c.args.order q c.remove-taken.result taken, ap (λ xs. total (lots_of xs)) left),
-      (
-        ap (λ xs. all_tradable (lots_of xs)) left ∙ tradable_out c.args.member c.args.order q level.tradable,
-        (
-          omega (arith, c.remove-taken.ensures.len, level.few),
-          (omega (arith, c.remove-taken.ensures.capacity, level.reserved), tt),
-        ),
-      ),
-    )
+    let taken = taken_is c.args.member c.args.order c.as_slice.result.now q c.in-Some.place c.as_slice.ensures.value c.remove-taken.result c.in-Some.ensures.value.2 c.remove-taken.ensures.value in
+    let left = left_is c.args.member c.args.order c.as_slice.result.now q c.in-Some.place c.as_slice.ensures.value (vec_items c.remove-taken.new.self) c.in-Some.ensures.value.1 c.remove-taken.ensures.items in
+    record {
+      together = omega (arith, level.together, total_out c.args.member c.args.order q c.remove-taken.result taken, ap (λ xs. total (lots_of xs)) left);
+      tradable = ap (λ xs. all_tradable (lots_of xs)) left ∙ tradable_out c.args.member c.args.order q level.tradable;
+      few = omega (arith, c.remove-taken.ensures.len, level.few);
+      reserved = omega (arith, c.remove-taken.ensures.capacity, level.reserved);
+    }
 
 pub returns-in-None : goal.returns-in-None
 returns-in-None c =
-    let same = c.as-slice.ensures.value in
+    let same = c.as_slice.ensures.value in
     record {
       value = sym c.in-None.ensures.value.0 ∙ ap (in_queue c.args.member c.args.order) same;
       queue = sym same ∙ sym c.in-None.ensures.value.1 ∙ ap (out_of_queue c.args.member c.args.order) same;
@@ -42,6 +39,6 @@ pub returns-in-Some : goal.returns-in-Some
 returns-in-Some c =
     let q = vec_items c.args.self.now.queue in
     record {
-      value = sym (taken_is c.args.member c.args.order c.as-slice.result.now q c.in-Some.place c.as-slice.ensures.value c.remove-taken.result c.in-Some.ensures.value.2 c.remove-taken.ensures.value);
-      queue = left_is c.args.member c.args.order c.as-slice.result.now q c.in-Some.place c.as-slice.ensures.value (vec_items c.remove-taken.new.self) c.in-Some.ensures.value.1 c.remove-taken.ensures.items;
+      value = sym (taken_is c.args.member c.args.order c.as_slice.result.now q c.in-Some.place c.as_slice.ensures.value c.remove-taken.result c.in-Some.ensures.value.2 c.remove-taken.ensures.value);
+      queue = left_is c.args.member c.args.order c.as_slice.result.now q c.in-Some.place c.as_slice.ensures.value (vec_items c.remove-taken.new.self) c.in-Some.ensures.value.1 c.remove-taken.ensures.items;
     }

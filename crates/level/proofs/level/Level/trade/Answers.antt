@@ -23,45 +23,42 @@ report-after-requires g c =
     let q = vec_items c.args.self.now.queue in
     let p = c.args.policy.now in
     let left = c.args.before.left in
-    let fills : c.as-slice-fills.result.now ≡ g.P.Policy.split p left (lots_of q) = c.as-slice-fills.ensures.value ∙ c.in-default.ensures.fills ∙ ap (λ xs. g.P.Policy.split c.args.policy.now c.args.before.left (lots_of xs)) c.as-slice.ensures.value in
+    let fills : c.as_slice-fills.result.now ≡ g.P.Policy.split p left (lots_of q) = c.as_slice-fills.ensures.value ∙ c.in_default.ensures.fills ∙ ap (λ xs. g.P.Policy.split c.args.policy.now c.args.before.left (lots_of xs)) c.as_slice.ensures.value in
     record {
-      fit = subst (λ xs. Fits c.as-slice-fills.result.now (lots_of xs)) (sym c.as-slice-2.ensures.value) (subst (λ fs. Fits fs (lots_of q)) (sym fills) (fitting g p left q));
+      fit = subst (λ xs. Fits c.as_slice-fills.result.now (lots_of xs)) (sym c.as_slice-2.ensures.value) (subst (λ fs. Fits fs (lots_of q)) (sym fills) (fitting g p left q));
       enough = omega (arith, ap total fills, enough g p left q);
       room = omega (arith, ap length fills, fits_even _ q (fitting g p left q), c.if-list-before.false, c.if-before-list.false, c.len.ensures, c.args.self.now.queue.ok.0);
     }
 
-pub take-off-requires : goal.take-off-requires
-take-off-requires g c =
+pub take_off-requires : goal.take_off-requires
+take_off-requires g c =
     let q = vec_items c.args.self.now.queue in
     let p = c.args.policy.now in
     let left = c.args.before.left in
-    let fills : c.as-slice-fills.result.now ≡ g.P.Policy.split p left (lots_of q) = c.as-slice-fills.ensures.value ∙ c.in-default.ensures.fills ∙ ap (λ xs. g.P.Policy.split c.args.policy.now c.args.before.left (lots_of xs)) c.as-slice.ensures.value in
+    let fills : c.as_slice-fills.result.now ≡ g.P.Policy.split p left (lots_of q) = c.as_slice-fills.ensures.value ∙ c.in_default.ensures.fills ∙ ap (λ xs. g.P.Policy.split c.args.policy.now c.args.before.left (lots_of xs)) c.as_slice.ensures.value in
     record { fit = subst (λ fs. Fits fs (lots_of q)) (sym fills) (fitting g p left q) }
 
-pub overflow-sub-self-2 : goal.overflow-sub-self-2
-overflow-sub-self-2 g c =
+pub overflow_sub-self-2 : goal.overflow_sub-self-2
+overflow_sub-self-2 g c =
     let level = c.args.self.now in
     let q = vec_items level.queue in
     let p = c.args.policy.now in
     let left = c.args.before.left in
-    let fills : c.as-slice-fills.result.now ≡ g.P.Policy.split p left (lots_of q) = c.as-slice-fills.ensures.value ∙ c.in-default.ensures.fills ∙ ap (λ xs. g.P.Policy.split c.args.policy.now c.args.before.left (lots_of xs)) c.as-slice.ensures.value in
+    let fills : c.as_slice-fills.result.now ≡ g.P.Policy.split p left (lots_of q) = c.as_slice-fills.ensures.value ∙ c.in_default.ensures.fills ∙ ap (λ xs. g.P.Policy.split c.args.policy.now c.args.before.left (lots_of xs)) c.as_slice.ensures.value in
     omega (arith, level.together, c.report-after.ensures.reported.left, ap total fills, total_after _ q (fitting g p left q))
 
-pub invariant-of-self : goal.invariant-of-self
-invariant-of-self g c =
+pub invariant_of-self : goal.invariant_of-self
+invariant_of-self g c =
     let level = c.args.self.now in
     let q = vec_items level.queue in
     let p = c.args.policy.now in
     let left = c.args.before.left in
-    let fills : c.as-slice-fills.result.now ≡ g.P.Policy.split p left (lots_of q) = c.as-slice-fills.ensures.value ∙ c.in-default.ensures.fills ∙ ap (λ xs. g.P.Policy.split c.args.policy.now c.args.before.left (lots_of xs)) c.as-slice.ensures.value in
+    let fills : c.as_slice-fills.result.now ≡ g.P.Policy.split p left (lots_of q) = c.as_slice-fills.ensures.value ∙ c.in_default.ensures.fills ∙ ap (λ xs. g.P.Policy.split c.args.policy.now c.args.before.left (lots_of xs)) c.as_slice.ensures.value in
     let fs = g.P.Policy.split p left (lots_of q) in
-    let after : vec_items c.take-off.new.queue ≡ after_fills fs q = c.take-off.ensures.items ∙ ap (λ xs. after_fills xs q) fills in (
-      omega (arith, level.together, c.report-after.ensures.reported.left, ap total fills, total_after fs q (fitting g p left q), enough g p left q, ap (λ xs. total (lots_of xs)) after),
-      (
-        ap (λ xs. all_tradable (lots_of xs)) after ∙ tradable_after fs q level.tradable,
-        (
-          omega (arith, length_after fs q, ap length after, c.take-off.new.queue.ok.0, level.queue.ok.0, level.few),
-          (omega (arith, c.take-off.ensures.memory, level.reserved), tt),
-        ),
-      ),
-    )
+    let after : vec_items c.take_off.new.queue ≡ after_fills fs q = c.take_off.ensures.items ∙ ap (λ xs. after_fills xs q) fills in
+    record {
+      together = omega (arith, level.together, c.report-after.ensures.reported.left, ap total fills, total_after fs q (fitting g p left q), enough g p left q, ap (λ xs. total (lots_of xs)) after);
+      tradable = ap (λ xs. all_tradable (lots_of xs)) after ∙ tradable_after fs q level.tradable;
+      few = omega (arith, length_after fs q, ap length after, c.take_off.new.queue.ok.0, level.queue.ok.0, level.few);
+      reserved = omega (arith, c.take_off.ensures.memory, level.reserved);
+    }
