@@ -23,4 +23,4 @@ pub returns-in-empty : goal.returns-in-empty
 returns-in-empty c = record { value = none_within c.args.left c.args.limit c.args.levels.now (omega (arith, ltb-true, ltb-false)) }
 
 pub returns-then-left-gt0 : goal.returns-then-left-gt0
-returns-then-left-gt0 c = record { value = some_within c.args.left c.args.limit c.args.levels.now c.first_item.result (omega (arith, ltb-true, ltb-false)) c.first_item.is (omega arith) }
+returns-then-left-gt0 c = record { value = some_within c.args.left c.args.limit c.args.levels.now c.first-item.result (omega (arith, ltb-true, ltb-false)) c.first-item.is (omega arith) }

@@ -21,13 +21,13 @@ module _ (g : given.Over) (p : g.row.P.Denot) where
   full : (q : ℕ) (ls : List ℕ) → total (g.P.Policy.split p q ls) ≡ min q (total ls)
   full q ls = total_sum (g.P.Policy.split p q ls) ∙ g.met.P.Policy.full p q ls ∙ ap (min q) (sym (total_sum ls))
 
-pub trade-best-step-requires : goal.trade-best-step-requires
-trade-best-step-requires g c =
+pub trade_best-step-requires : goal.trade_best-step-requires
+trade_best-step-requires g c =
     let lp = c.loop-side in
     let ns = vec_items lp.levels in
     let o = c.args.order.now in
     let fits = range_from o.price o.price_within.0 o.price_within.1 in
-    let x = crossing (order_figures o) c.args.side c.turn-limit.result c.requires.side c.turn-limit.ensures.value fits ns lp.after.left lp.invariant.0.stand (c.loop-side-test.ensures.value ∙ ap (λ ys. ltb 0 lp.after.left && first_within c.turn-limit.result (seen ys)) c.as-slice.ensures.value) in
+    let x = crossing (order_figures o) c.args.side c.turn-limit.result c.requires.side c.turn-limit.ensures.value fits ns lp.after.left lp.invariant.0.stand (c.loop-side-test.ensures.value ∙ ap (λ ys. ltb 0 lp.after.left && first_within c.turn-limit.result (seen ys)) c.as_slice.ensures.value) in
     record {
       ascending = lp.invariant.0.ascends;
       stand = lp.invariant.0.stand;
@@ -42,11 +42,11 @@ pub loop-side-smaller : goal.loop-side-smaller
 loop-side-smaller g c =
     let lp = c.loop-side in
     let ns = vec_items lp.levels in
-    let d = c.trade-best-step in
+    let d = c.trade_best-step in
     let o = c.args.order.now in
     let p = c.args.policy.now in
     let fits = range_from o.price o.price_within.0 o.price_within.1 in
-    let x = crossing (order_figures o) c.args.side c.turn-limit.result c.requires.side c.turn-limit.ensures.value fits ns lp.after.left lp.invariant.0.stand (c.loop-side-test.ensures.value ∙ ap (λ ys. ltb 0 lp.after.left && first_within c.turn-limit.result (seen ys)) c.as-slice.ensures.value) in
+    let x = crossing (order_figures o) c.args.side c.turn-limit.result c.requires.side c.turn-limit.ensures.value fits ns lp.after.left lp.invariant.0.stand (c.loop-side-test.ensures.value ∙ ap (λ ys. ltb 0 lp.after.left && first_within c.turn-limit.result (seen ys)) c.as_slice.ensures.value) in
     let less = less_again (g.P.Policy.split p) (fitting g p) (full g p) (order_figures o) c.args.side c.args.start (vec_items c.args.levels.now) ns (vec_items d.new.levels) c.args.list.now lp.list d.new.list lp.after d.result.after lp.invariant.0 x.more x.some x.crossed d.ensures.seen d.ensures.reported in
     omega (arith, less, lp.levels.ok.0, d.new.levels.ok.0)
 
@@ -54,17 +54,17 @@ pub loop-side-preserved : goal.loop-side-preserved
 loop-side-preserved g c =
     let lp = c.loop-side in
     let ns = vec_items lp.levels in
-    let d = c.trade-best-step in
+    let d = c.trade_best-step in
     let o = c.args.order.now in
     let p = c.args.policy.now in
     let fits = range_from o.price o.price_within.0 o.price_within.1 in
-    let x = crossing (order_figures o) c.args.side c.turn-limit.result c.requires.side c.turn-limit.ensures.value fits ns lp.after.left lp.invariant.0.stand (c.loop-side-test.ensures.value ∙ ap (λ ys. ltb 0 lp.after.left && first_within c.turn-limit.result (seen ys)) c.as-slice.ensures.value) in (
+    let x = crossing (order_figures o) c.args.side c.turn-limit.result c.requires.side c.turn-limit.ensures.value fits ns lp.after.left lp.invariant.0.stand (c.loop-side-test.ensures.value ∙ ap (λ ys. ltb 0 lp.after.left && first_within c.turn-limit.result (seen ys)) c.as_slice.ensures.value) in (
       met_again (g.P.Policy.split p) (fitting g p) (full g p) (order_figures o) c.args.side c.args.start (vec_items c.args.levels.now) ns (vec_items d.new.levels) c.args.list.now lp.list d.new.list lp.after d.result.after lp.invariant.0 x.more x.some x.crossed d.ensures.seen d.ensures.reported d.ensures.ascending d.ensures.stand d.auto.list,
       omega (arith, d.ensures.gone, lp.invariant.1),
       omega (arith, lp.invariant.2),
       d.ensures.spares,
-      d.ensures.levels-memory ∙ lp.invariant.4,
-      d.ensures.spare-memory ∙ lp.invariant.5,
+      d.ensures.levels_memory ∙ lp.invariant.4,
+      d.ensures.spare_memory ∙ lp.invariant.5,
     )
 
 pub returns : goal.returns
@@ -75,7 +75,7 @@ returns g c =
     let p = c.args.policy.now in
     let split = g.P.Policy.split p in
     let fits = range_from o.price o.price_within.0 o.price_within.1 in
-    let end : meets split (order_figures o) lp.after.left (priced c.args.side (seen ns)) ≡ record { left = lp.after.left; levels = priced c.args.side (seen ns); entries = [] } = meets_end (order_figures o) c.args.side c.turn-limit.result c.requires.side c.turn-limit.ensures.value fits split (fitting g p) (full g p) ns lp.after.left lp.invariant.0.stand (c.loop-side-test.ensures.value ∙ ap (λ ys. ltb 0 lp.after.left && first_within c.turn-limit.result (seen ys)) c.as-slice.ensures.value) in
+    let end : meets split (order_figures o) lp.after.left (priced c.args.side (seen ns)) ≡ record { left = lp.after.left; levels = priced c.args.side (seen ns); entries = [] } = meets_end (order_figures o) c.args.side c.turn-limit.result c.requires.side c.turn-limit.ensures.value fits split (fitting g p) (full g p) ns lp.after.left lp.invariant.0.stand (c.loop-side-test.ensures.value ∙ ap (λ ys. ltb 0 lp.after.left && first_within c.turn-limit.result (seen ys)) c.as_slice.ensures.value) in
     record {
       ascending = lp.invariant.0.ascends;
       stand = lp.invariant.0.stand;
@@ -90,8 +90,8 @@ returns g c =
       counted = lp.invariant.1;
       fewer = lp.invariant.2;
       spares = lp.invariant.3;
-      levels-memory = lp.invariant.4;
-      spare-memory = lp.invariant.5;
+      levels_memory = lp.invariant.4;
+      spare_memory = lp.invariant.5;
     }
 
 pub loop-side-init : goal.loop-side-init

@@ -29,19 +29,19 @@ pub trade-after-requires : goal.trade-after-requires
 trade-after-requires g c =
     let ns = vec_items c.args.levels.now in
     let some : 0 < length ns = omega (arith, c.requires.some, c.args.levels.now.ok.0) in
-    let n = c.index-mut.result.now in
-    let queue : first_queue (seen ns) ≡ queue_of n.value = first_queue_is ns n some ∙ ap (λ (m : Node Price Level). queue_of m.value) (sym c.index-mut.ensures.value) in
+    let n = c.index_mut.result.now in
+    let queue : first_queue (seen ns) ≡ queue_of n.value = first_queue_is ns n some ∙ ap (λ (m : Node Price Level). queue_of m.value) (sym c.index_mut.ensures.value) in
     record { left = c.requires.left; room = omega (arith, ap length queue, c.requires.room) }
 
-pub overflow-sub-gone : goal.overflow-sub-gone
-overflow-sub-gone g c =
+pub overflow_sub-gone : goal.overflow_sub-gone
+overflow_sub-gone g c =
     let ns = vec_items c.args.levels.now in
     let some : 0 < length ns = omega (arith, c.requires.some, c.args.levels.now.ok.0) in
-    let n = c.index-mut.result.now in
+    let n = c.index_mut.result.now in
     let q = queue_of n.value in
     let m : Node Price Level = record { key = n.key; value = c.trade-after.new.level } in
     let after : c.index-3.result.now ≡ m = c.index-3.ensures ∙ get_or-set_same ns 0 m c.index-3.result.now some in
-    let stood : c.index-2.result.now ≡ n = c.index-2.ensures ∙ get_or_default ns 0 c.index-2.result.now n some ∙ sym c.index-mut.ensures.value in
+    let stood : c.index-2.result.now ≡ n = c.index-2.ensures ∙ get_or_default ns 0 c.index-2.result.now n some ∙ sym c.index_mut.ensures.value in
     let fs = g.P.Policy.split c.args.policy.now c.args.before.left (lots_of q) in
     omega (arith, c.len.ensures.value, c.len-stood.ensures.value, ap (λ (x : Node Price Level). length (queue_of x.value)) after, ap (λ (x : Node Price Level). length (queue_of x.value)) stood, ap length c.trade-after.ensures.queue, length_after fs q)
 
@@ -49,10 +49,10 @@ pub settle-requires : goal.settle-requires
 settle-requires g c =
     let ns = vec_items c.args.levels.now in
     let some : 0 < length ns = omega (arith, c.requires.some, c.args.levels.now.ok.0) in
-    let n = c.index-mut.result.now in
+    let n = c.index_mut.result.now in
     let m : Node Price Level = record { key = n.key; value = c.trade-after.new.level } in
     record {
-      ascending = ascending_first ns m (λ d. ap (λ (x : Node Price Level). x.key) (c.index-mut.ensures.value ∙ get_or_default ns 0 n d some)) c.requires.ascending;
+      ascending = ascending_first ns m (λ d. ap (λ (x : Node Price Level). x.key) (c.index_mut.ensures.value ∙ get_or_default ns 0 n d some)) c.requires.ascending;
       within = c.requires.some;
       spares = c.requires.spares;
       reserved = c.requires.reserved;
@@ -62,18 +62,18 @@ pub returns : goal.returns
 returns g c =
     let ns = vec_items c.args.levels.now in
     let some : 0 < length ns = omega (arith, c.requires.some, c.args.levels.now.ok.0) in
-    let n = c.index-mut.result.now in
+    let n = c.index_mut.result.now in
     let q = queue_of n.value in
     let m : Node Price Level = record { key = n.key; value = c.trade-after.new.level } in
     let split = g.P.Policy.split c.args.policy.now c.args.before.left in
-    let read : (d : Node Price Level) → n ≡ get_or ns 0 d = λ d. c.index-mut.ensures.value ∙ get_or_default ns 0 n d some in
+    let read : (d : Node Price Level) → n ≡ get_or ns 0 d = λ d. c.index_mut.ensures.value ∙ get_or_default ns 0 n d some in
     let queue : q ≡ first_queue (seen ns) = ap (λ (x : Node Price Level). queue_of x.value) (read n) ∙ sym (first_queue_is ns n some) in
     let price : c.turn-price.result ≡ turned c.args.side (first_rank (seen ns)) = c.turn-price.ensures.value ∙ ap (turned c.args.side) (ap (λ (x : Node Price Level). x.key.0) c.index.ensures ∙ sym (first_rank_is ns c.index.result.now some)) in
     let here : get_or (set ns 0 m) 0 m ≡ m = get_or-set_same ns 0 m m some in
     let nodes = c.settle.ensures.nodes m ∙ ap (λ (x : Node Price Level). cond (ltb 0 (length (queue_of x.value))) (set ns 0 m) (remove (set ns 0 m) 0)) here in
     let filled = filled_first split ns (vec_items c.settle.new.levels) m some (λ d. ap (λ (x : Node Price Level). x.key) (read d)) (c.trade-after.ensures.queue ∙ ap (λ os. after_fills (split (lots_of os)) os) queue) nodes c.requires.stand in
     let after : c.index-3.result.now ≡ m = c.index-3.ensures ∙ get_or-set_same ns 0 m c.index-3.result.now some in
-    let stood : c.index-2.result.now ≡ n = c.index-2.ensures ∙ get_or_default ns 0 c.index-2.result.now n some ∙ sym c.index-mut.ensures.value in
+    let stood : c.index-2.result.now ≡ n = c.index-2.ensures ∙ get_or_default ns 0 c.index-2.result.now n some ∙ sym c.index_mut.ensures.value in
     let told : Reported (order_figures c.args.order.now) (turned c.args.side (first_rank (seen ns))) (split (lots_of q)) q c.args.list.now c.trade-after.new.list c.args.before c.trade-after.result = subst (λ p. Reported (order_figures c.args.order.now) p (split (lots_of q)) q c.args.list.now c.trade-after.new.list c.args.before c.trade-after.result) price c.trade-after.ensures.reported in
     record {
       ascending = c.settle.ensures.ascending;
@@ -82,6 +82,6 @@ returns g c =
       reported = subst (λ os. Reported (order_figures c.args.order.now) (turned c.args.side (first_rank (seen ns))) (split (lots_of os)) os c.args.list.now c.trade-after.new.list c.args.before c.trade-after.result) queue told;
       gone = omega (arith, filled.count, c.len.ensures.value, c.len-stood.ensures.value, ap (λ (x : Node Price Level). length (queue_of x.value)) after, ap (λ (x : Node Price Level). length (queue_of x.value)) stood, ap length queue, ap length c.trade-after.ensures.queue, length_after (split (lots_of q)) q);
       spares = c.settle.ensures.spares;
-      levels-memory = c.settle.ensures.levels-memory;
-      spare-memory = c.settle.ensures.spare-memory;
+      levels_memory = c.settle.ensures.levels_memory;
+      spare_memory = c.settle.ensures.spare_memory;
     }

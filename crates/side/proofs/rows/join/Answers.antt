@@ -20,10 +20,10 @@ pub add-requires : goal.add-requires
 add-requires c =
     let ns = vec_items c.args.levels.now in
     let i = c.in-Ok.place in
-    let old = c.index-mut.result.now in
-    let within : i < length ns = subst (λ ys. i < length ys) c.as-slice.ensures.value c.in-Ok.ensures.places.within in
+    let old = c.index_mut.result.now in
+    let within : i < length ns = subst (λ ys. i < length ys) c.as_slice.ensures.value c.in-Ok.ensures.places.within in
     let le = queue_short ns i old within in
-    let e = ap (λ n. length (queue_of n.value)) c.index-mut.ensures.value in
+    let e = ap (λ n. length (queue_of n.value)) c.index_mut.ensures.value in
     record { short = omega (arith, c.requires.short); tradable = c.requires.tradable }
 
 pub open-requires : goal.open-requires
@@ -36,10 +36,10 @@ returns-in-Ok c =
     let ns = vec_items c.args.levels.now in
     let i = c.in-Ok.place in
     let o = c.args.order in
-    let old = c.index-mut.result.now in
+    let old = c.index_mut.result.now in
     let m : Node Price Level = record { key = old.key; value = c.add.new.level } in
-    let at : At by_price ns c.args.rank i = subst (λ ys. At by_price ys c.args.rank i) c.as-slice.ensures.value c.in-Ok.ensures.places in
-    let read : (d : Node Price Level) → old ≡ get_or ns i d = λ d. c.index-mut.ensures.value ∙ get_or_default ns i old d at.within in
+    let at : At by_price ns c.args.rank i = subst (λ ys. At by_price ys c.args.rank i) c.as_slice.ensures.value c.in-Ok.ensures.places in
+    let read : (d : Node Price Level) → old ≡ get_or ns i d = λ d. c.index_mut.ensures.value ∙ get_or_default ns i old d at.within in
     let same : old.key ≡ c.args.rank = ap (λ n. n.key) (read old) ∙ at.is old in
     let range : in_range old.key.0 ≡ true = ap (λ n. in_range n.key.0) (read old) ∙ stands_range (get_or ns i old) (standing_at ns i old c.requires.stand at.within) in
     let at-m : At by_price ns old.key i = record { within = at.within; is = λ d. at.is d ∙ sym same } in
@@ -48,8 +48,8 @@ returns-in-Ok c =
       stand = standing_set ns i m c.requires.stand (stands_from m range (omega (arith, ap length c.add.ensures.queue, length_push (queue_of old.value) o)));
       seen = seen_joined m o ns i c.requires.ascending at-m (λ d. c.add.ensures.queue ∙ ap (λ n. queue_of n.value ++ o ∷ []) (read d)) ∙ ap (λ k. joins Sell k.0 o (seen ns)) same;
       spares = c.requires.spares;
-      levels-memory = search rules;
-      spare-memory = search rules;
+      levels_memory = search rules;
+      spare_memory = search rules;
     }
 
 pub returns-in-Ok-insert : goal.returns-in-Ok-insert
@@ -64,6 +64,6 @@ returns-in-Ok-insert c =
       stand = ap standing after ∙ standing_put n ns c.requires.stand (stands_from n c.requires.rank (omega (arith, ap length c.open.ensures.queue)));
       seen = ap seen after ∙ seen_put n o ns c.open.ensures.queue done.new;
       spares = omega (arith, c.open.ensures.count, c.insert.new.nodes.ok.0, ap length after, length_put by_price n ns, c.args.levels.now.ok.0, c.requires.spares);
-      levels-memory = c.insert.ensures.memory;
-      spare-memory = c.open.ensures.memory;
+      levels_memory = c.insert.ensures.memory;
+      spare_memory = c.open.ensures.memory;
     }

@@ -37,7 +37,7 @@ returns-in-Some c =
     record {
       nodes = λ d. after ∙ sym (cond-false (ltb 0 (length (queue_of (get_or ns i d).value))) ns (remove ns i) (le-ltb 0 _ (none d)));
       ascending = c.remove.ensures.ascending;
-      spares = omega (arith, c.push-reserved.ensures.len, c.remove.new.nodes.ok.0, ap length after, length-remove ns i within, c.args.levels.now.ok.0, c.requires.spares);
-      levels-memory = c.remove.ensures.memory;
-      spare-memory = c.push-reserved.ensures.capacity;
+      spares = omega (arith, c.push_reserved.ensures.len, c.remove.new.nodes.ok.0, ap length after, length-remove ns i within, c.args.levels.now.ok.0, c.requires.spares);
+      levels_memory = c.remove.ensures.memory;
+      spare_memory = c.push_reserved.ensures.capacity;
     }

@@ -22,11 +22,11 @@ pub settle-requires : goal.settle-requires
 settle-requires c =
     let ns = vec_items c.args.levels.now in
     let i = c.in-Ok.place in
-    let old = c.index-mut.result.now in
-    let m : Node Price Level = record { key = old.key; value = c.take-out-taken.new.self } in
-    let at : At by_price ns c.args.rank i = subst (λ ys. At by_price ys c.args.rank i) c.as-slice.ensures.value c.in-Ok.ensures.places in
+    let old = c.index_mut.result.now in
+    let m : Node Price Level = record { key = old.key; value = c.take_out-taken.new.self } in
+    let at : At by_price ns c.args.rank i = subst (λ ys. At by_price ys c.args.rank i) c.as_slice.ensures.value c.in-Ok.ensures.places in
     record {
-      ascending = ascending_set by_price m ns i (λ d. ap (λ n. n.key) (c.index-mut.ensures.value ∙ get_or_default ns i old d at.within)) c.requires.ascending;
+      ascending = ascending_set by_price m ns i (λ d. ap (λ n. n.key) (c.index_mut.ensures.value ∙ get_or_default ns i old d at.within)) c.requires.ascending;
       within = omega (arith, at.within, c.args.levels.now.ok.0);
       spares = c.requires.spares;
       reserved = c.requires.reserved;
@@ -39,14 +39,14 @@ returns-in-Ok c =
     let rank = c.args.rank in
     let member = c.args.member in
     let order = c.args.order in
-    let old = c.index-mut.result.now in
-    let m : Node Price Level = record { key = old.key; value = c.take-out-taken.new.self } in
+    let old = c.index_mut.result.now in
+    let m : Node Price Level = record { key = old.key; value = c.take_out-taken.new.self } in
     let ms = set ns i m in
-    let at : At by_price ns rank i = subst (λ ys. At by_price ys rank i) c.as-slice.ensures.value c.in-Ok.ensures.places in
-    let read : (d : Node Price Level) → old ≡ get_or ns i d = λ d. c.index-mut.ensures.value ∙ get_or_default ns i old d at.within in
+    let at : At by_price ns rank i = subst (λ ys. At by_price ys rank i) c.as_slice.ensures.value c.in-Ok.ensures.places in
+    let read : (d : Node Price Level) → old ≡ get_or ns i d = λ d. c.index_mut.ensures.value ∙ get_or_default ns i old d at.within in
     let same : old.key ≡ rank = ap (λ n. n.key) (read old) ∙ at.is old in
     let at-m : At by_price ns old.key i = record { within = at.within; is = λ d. at.is d ∙ sym same } in
-    let queue : (d : Node Price Level) → queue_of m.value ≡ out_of_queue member order (queue_of (get_or ns i d).value) = λ d. c.take-out-taken.ensures.queue ∙ ap (λ n. out_of_queue member order (queue_of n.value)) (read d) in
+    let queue : (d : Node Price Level) → queue_of m.value ≡ out_of_queue member order (queue_of (get_or ns i d).value) = λ d. c.take_out-taken.ensures.queue ∙ ap (λ n. out_of_queue member order (queue_of n.value)) (read d) in
     let here : get_or ms i m ≡ m = get_or-set_same ns i m m at.within in
     let q : List Resting = queue_of m.value in
     let made : vec_items c.settle.new.levels ≡ cond (ltb 0 (length q)) ms (remove ms i) = c.settle.ensures.nodes m ∙ ap (λ n. cond (ltb 0 (length (queue_of n.value))) ms (remove ms i)) here in
@@ -55,7 +55,7 @@ returns-in-Ok c =
     let none : ltb 0 (length q) ≡ false → q ≡ [] = λ f. nil_from_length q (omega (arith, ltb-false 0 (length q) f)) in
     let range : in_range old.key.0 ≡ true = ap (λ n. in_range n.key.0) (read old) ∙ stands_range (get_or ns i old) (standing_at ns i old c.requires.stand at.within) in
     record {
-      value = c.take-out-taken.ensures.value ∙ ap (λ n. in_queue member order (queue_of n.value)) (read old) ∙ sym (ap (in_queue member order) (queue_found rank ns i old c.requires.ascending at));
+      value = c.take_out-taken.ensures.value ∙ ap (λ n. in_queue member order (queue_of n.value)) (read old) ∙ sym (ap (in_queue member order) (queue_found rank ns i old c.requires.ascending at));
       ascending = c.settle.ensures.ascending;
       stand = ⊎_elim
           (λ (t : ltb 0 (length q) ≡ true). ap standing (stays t) ∙ standing_set ns i m c.requires.stand (stands_from m range (ltb-true 0 (length q) t)))
@@ -66,8 +66,8 @@ returns-in-Ok c =
           (λ (f : ltb 0 (length q) ≡ false). ap seen (goes f) ∙ seen_gone member order rank ns i c.requires.ascending at (λ d. sym (queue d) ∙ none f))
           (cases_Bool (ltb 0 (length q)));
       spares = c.settle.ensures.spares;
-      levels-memory = c.settle.ensures.levels-memory;
-      spare-memory = c.settle.ensures.spare-memory;
+      levels_memory = c.settle.ensures.levels_memory;
+      spare_memory = c.settle.ensures.spare_memory;
     }
 
 pub returns-in-Err : goal.returns-in-Err
@@ -75,7 +75,7 @@ returns-in-Err c =
     let ns = vec_items c.args.levels.now in
     let i = c.in-Err.field-0 in
     let rank = c.args.rank in
-    let gap : Gap by_price ns rank i = subst (λ ys. Gap by_price ys rank i) c.as-slice.ensures.value c.in-Err.ensures.places in
+    let gap : Gap by_price ns rank i = subst (λ ys. Gap by_price ys rank i) c.as_slice.ensures.value c.in-Err.ensures.places in
     let nowhere = gap_nowhere rank ns i gap in
     record {
       value = sym (ap (in_queue c.args.member c.args.order) (queue_nowhere rank.0 (seen ns) nowhere));
@@ -83,6 +83,6 @@ returns-in-Err c =
       stand = c.requires.stand;
       seen = sym (out_nowhere rank.0 c.args.member c.args.order (seen ns) nowhere);
       spares = c.requires.spares;
-      levels-memory = search rules;
-      spare-memory = search rules;
+      levels_memory = search rules;
+      spare_memory = search rules;
     }

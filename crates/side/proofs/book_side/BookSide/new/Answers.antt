@@ -7,22 +7,16 @@ use Rattle.market.specs.Market.{resting}
 use Rattle.side.specs.Row.{seen, standing}
 use Rattle.side.proofs.book_side.BookSide.new.Goals as goal
 
-pub invariant-of-result : goal.invariant-of-result
-invariant-of-result c =
-    let made = c.in-ok-levels.ensures.made in
-    let none = made.0 in (
-      ap (ascending by_price) none ∙ ascending_none Level by_price,
-      (
-        ap standing none,
-        (
-          sym (ap (λ ns. resting (seen ns)) none),
-          (
-            omega arith,
-            (
-              omega (arith, c.loop.invariant.0, c.loop-test.false, c.loop.auto.counter-end, c.in-ok-levels.levels.ok.0, ap length none),
-              (omega (arith, made), (c.loop.invariant.1, tt)),
-            ),
-          ),
-        ),
-      ),
-    )
+pub invariant_of-result : goal.invariant_of-result
+invariant_of-result c =
+    let made = c.in_ok-levels.ensures in
+    let none = made.items in
+    record {
+      ascends = ap (ascending by_price) none ∙ ascending_none Level by_price;
+      stand = ap standing none;
+      counted = sym (ap (λ ns. resting (seen ns)) none);
+      few = omega arith;
+      spares = omega (arith, c.loop.invariant.0, c.loop-test.false, c.loop.auto.counter-end, c.in_ok-levels.levels.ok.0, ap length none);
+      levels_reserved = omega (arith, made.capacity);
+      spare_reserved = c.loop.invariant.1;
+    }

@@ -12,69 +12,51 @@ use Rattle.side.proofs.Prices.{turned_twice, turned_range, queue_priced, out_pri
 use Rattle.side.proofs.Removals.{queue_nowhere, out_nowhere, outside_nowhere, resting_less, resting_same}
 use Rattle.side.proofs.book_side.BookSide.take_out.Goals as goal
 
-pub returns-then-not-in-range : goal.returns-then-not-in-range
-returns-then-not-in-range c =
+pub returns-then-not-in_range : goal.returns-then-not-in_range
+returns-then-not-in_range c =
     let b = c.args.self.now in
-    let nowhere = outside_nowhere b.side c.args.price (vec_items b.levels) b.stand (sym c.if-not-in-range.ensures.value) in
+    let nowhere = outside_nowhere b.side c.args.price (vec_items b.levels) b.stand (sym c.if-not-in_range.ensures.value) in
     record {
       value = sym (ap (in_queue c.args.member c.args.order) (queue_nowhere c.args.price (levels_of b) nowhere));
       levels = sym (out_nowhere c.args.price c.args.member c.args.order (levels_of b) nowhere);
       side = refl;
     }
 
-pub overflow-sub-self : goal.overflow-sub-self
-overflow-sub-self c =
+pub overflow_sub-self : goal.overflow_sub-self
+overflow_sub-self c =
     let b = c.args.self.now in
-    let there = sym (c.if-is-some.ensures ∙ ap is_some c.take-out-taken.ensures.value) in
+    let there = sym (c.if-is_some.ensures ∙ ap is_some c.take_out-taken.ensures.value) in
     omega (arith, resting_less c.turn.result c.args.member c.args.order (seen (vec_items b.levels)) there, b.counted)
 
-pub invariant-of-self : goal.invariant-of-self
-invariant-of-self c =
+pub invariant_of-self : goal.invariant_of-self
+invariant_of-self c =
     let b = c.args.self.now in
-    let there = sym (c.if-is-some.ensures ∙ ap is_some c.take-out-taken.ensures.value) in
-    let less = resting_less c.turn.result c.args.member c.args.order (seen (vec_items b.levels)) there in (
-      c.take-out-taken.ensures.ascending,
-      (
-        c.take-out-taken.ensures.stand,
-        (
-          omega (arith, less, ap resting c.take-out-taken.ensures.seen, b.counted),
-          (
-            omega (arith, b.few),
-            (
-              c.take-out-taken.ensures.spares,
-              (
-                omega (arith, c.take-out-taken.ensures.levels-memory, b.levels_reserved),
-                (omega (arith, c.take-out-taken.ensures.spare-memory, b.spare_reserved), tt),
-              ),
-            ),
-          ),
-        ),
-      ),
-    )
+    let there = sym (c.if-is_some.ensures ∙ ap is_some c.take_out-taken.ensures.value) in
+    let less = resting_less c.turn.result c.args.member c.args.order (seen (vec_items b.levels)) there in
+    record {
+      ascends = c.take_out-taken.ensures.ascending;
+      stand = c.take_out-taken.ensures.stand;
+      counted = omega (arith, less, ap resting c.take_out-taken.ensures.seen, b.counted);
+      few = omega (arith, b.few);
+      spares = c.take_out-taken.ensures.spares;
+      levels_reserved = omega (arith, c.take_out-taken.ensures.levels_memory, b.levels_reserved);
+      spare_reserved = omega (arith, c.take_out-taken.ensures.spare_memory, b.spare_reserved);
+    }
 
-pub invariant-of-self-else-is-some : goal.invariant-of-self-else-is-some
-invariant-of-self-else-is-some c =
+pub invariant_of-self-else-is_some : goal.invariant_of-self-else-is_some
+invariant_of-self-else-is_some c =
     let b = c.args.self.now in
-    let there = sym (c.if-is-some.ensures ∙ ap is_some c.take-out-taken.ensures.value) in
-    let same = resting_same c.turn.result c.args.member c.args.order (seen (vec_items b.levels)) there in (
-      c.take-out-taken.ensures.ascending,
-      (
-        c.take-out-taken.ensures.stand,
-        (
-          omega (arith, same, ap resting c.take-out-taken.ensures.seen, b.counted),
-          (
-            b.few,
-            (
-              c.take-out-taken.ensures.spares,
-              (
-                omega (arith, c.take-out-taken.ensures.levels-memory, b.levels_reserved),
-                (omega (arith, c.take-out-taken.ensures.spare-memory, b.spare_reserved), tt),
-              ),
-            ),
-          ),
-        ),
-      ),
-    )
+    let there = sym (c.if-is_some.ensures ∙ ap is_some c.take_out-taken.ensures.value) in
+    let same = resting_same c.turn.result c.args.member c.args.order (seen (vec_items b.levels)) there in
+    record {
+      ascends = c.take_out-taken.ensures.ascending;
+      stand = c.take_out-taken.ensures.stand;
+      counted = omega (arith, same, ap resting c.take_out-taken.ensures.seen, b.counted);
+      few = b.few;
+      spares = c.take_out-taken.ensures.spares;
+      levels_reserved = omega (arith, c.take_out-taken.ensures.levels_memory, b.levels_reserved);
+      spare_reserved = omega (arith, c.take_out-taken.ensures.spare_memory, b.spare_reserved);
+    }
 
 -- what was done by rank, told by price
 module _ (s : Side) (price rank member order : ℕ) (ns ns' : List (Node Price Held)) (stand : standing ns ≡ true) (range : in_range price ≡ true) (turn : rank ≡ turned s price) where
@@ -90,26 +72,26 @@ module _ (s : Side) (price rank member order : ℕ) (ns ns' : List (Node Price H
   left_priced : seen ns' ≡ out_at rank member order (seen ns) → priced s (seen ns') ≡ out_at price member order (priced s (seen ns))
   left_priced e = ap (priced s) e ∙ sym (out_priced s rank member order ns ranked stand) ∙ ap (λ p. out_at p member order (priced s (seen ns))) back
 
-pub returns-then-is-some : goal.returns-then-is-some
-returns-then-is-some c =
+pub returns-then-is_some : goal.returns-then-is_some
+returns-then-is_some c =
     let b = c.args.self.now in
     let ns = vec_items b.levels in
-    let ns' = vec_items c.take-out-taken.new.levels in
-    let range : in_range c.args.price ≡ true = sym c.if-not-in-range.ensures.value in
+    let ns' = vec_items c.take_out-taken.new.levels in
+    let range : in_range c.args.price ≡ true = sym c.if-not-in_range.ensures.value in
     record {
-      value = taken_priced b.side c.args.price c.turn.result c.args.member c.args.order ns ns' b.stand range c.turn.ensures.value c.take-out-taken.result c.take-out-taken.ensures.value;
-      levels = left_priced b.side c.args.price c.turn.result c.args.member c.args.order ns ns' b.stand range c.turn.ensures.value c.take-out-taken.ensures.seen;
+      value = taken_priced b.side c.args.price c.turn.result c.args.member c.args.order ns ns' b.stand range c.turn.ensures.value c.take_out-taken.result c.take_out-taken.ensures.value;
+      levels = left_priced b.side c.args.price c.turn.result c.args.member c.args.order ns ns' b.stand range c.turn.ensures.value c.take_out-taken.ensures.seen;
       side = refl;
     }
 
-pub returns-else-is-some : goal.returns-else-is-some
-returns-else-is-some c =
+pub returns-else-is_some : goal.returns-else-is_some
+returns-else-is_some c =
     let b = c.args.self.now in
     let ns = vec_items b.levels in
-    let ns' = vec_items c.take-out-taken.new.levels in
-    let range : in_range c.args.price ≡ true = sym c.if-not-in-range.ensures.value in
+    let ns' = vec_items c.take_out-taken.new.levels in
+    let range : in_range c.args.price ≡ true = sym c.if-not-in_range.ensures.value in
     record {
-      value = taken_priced b.side c.args.price c.turn.result c.args.member c.args.order ns ns' b.stand range c.turn.ensures.value c.take-out-taken.result c.take-out-taken.ensures.value;
-      levels = left_priced b.side c.args.price c.turn.result c.args.member c.args.order ns ns' b.stand range c.turn.ensures.value c.take-out-taken.ensures.seen;
+      value = taken_priced b.side c.args.price c.turn.result c.args.member c.args.order ns ns' b.stand range c.turn.ensures.value c.take_out-taken.result c.take_out-taken.ensures.value;
+      levels = left_priced b.side c.args.price c.turn.result c.args.member c.args.order ns ns' b.stand range c.turn.ensures.value c.take_out-taken.ensures.seen;
       side = refl;
     }
