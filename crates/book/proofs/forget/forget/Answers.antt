@@ -11,7 +11,7 @@ use Rattle.market.specs.declared.entry.Entry.{Entry}
 use Rattle.book.specs.declared.place.Place.{Place}
 use Rattle.book.specs.Place.{is_gone, id_of, forgotten}
 use Rattle.book.proofs.forget.forget.Goals as goal
-use Rattle.book.proofs.forget.forget.Goals.{then-filled-whole, else-filled-whole}
+use Rattle.book.proofs.forget.forget.Goals.{then-filled_whole, else-filled_whole}
 
 -- one entry more
 next : (side : Side) (es : List Entry) (i : ℕ) (d : Entry) (ns ms whole : List (Node OrderId Place)) → i < length es → ms ≡ cond (is_gone side (get_or es i d).event) (without by_order_id ns (id_of (get_or es i d))) ns → forgotten side (drop i es) ns ≡ whole → forgotten side (drop (i + 1) es) ms ≡ whole
@@ -23,9 +23,9 @@ loop-entry-preserved c =
     let es = c.args.entries.now in
     let ns = nodes_by_order lp.places in
     let h = c.loop-entry-test.true in
-    elim c.if-filled-whole.branch [
-      | then-filled-whole w ↦ (next c.args.side es lp.entry-index _ ns (nodes_by_order c.if-filled-whole.places) _ h (ap nodes_by_order w.places-is ∙ w.remove.ensures.nodes ∙ sym (cond-true _ _ _ (sym w.if-filled-whole.ensures.value))) lp.invariant.0, ap room_by_order w.places-is ∙ w.remove.ensures.capacity ∙ lp.invariant.1)
-      | else-filled-whole w ↦ (next c.args.side es lp.entry-index _ ns (nodes_by_order c.if-filled-whole.places) _ h (ap nodes_by_order w.places-is ∙ sym (cond-false _ _ _ (sym w.if-filled-whole.ensures.value))) lp.invariant.0, ap room_by_order w.places-is ∙ lp.invariant.1)
+    elim c.if-filled_whole.branch [
+      | then-filled_whole w ↦ (next c.args.side es lp.entry-index _ ns (nodes_by_order c.if-filled_whole.places) _ h (ap nodes_by_order w.places-is ∙ w.remove.ensures.nodes ∙ sym (cond-true _ _ _ (sym w.if-filled_whole.ensures.value))) lp.invariant.0, ap room_by_order w.places-is ∙ w.remove.ensures.capacity ∙ lp.invariant.1)
+      | else-filled_whole w ↦ (next c.args.side es lp.entry-index _ ns (nodes_by_order c.if-filled_whole.places) _ h (ap nodes_by_order w.places-is ∙ sym (cond-false _ _ _ (sym w.if-filled_whole.ensures.value))) lp.invariant.0, ap room_by_order w.places-is ∙ lp.invariant.1)
     ]
 
 pub returns : goal.returns

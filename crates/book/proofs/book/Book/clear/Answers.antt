@@ -7,22 +7,18 @@ use Rattle.market.specs.Tally.{same_side}
 use Rattle.book.proofs.Known.{none_placed}
 use Rattle.book.proofs.book.Book.clear.Goals as goal
 
-pub invariant-of-self : goal.invariant-of-self
-invariant-of-self c =
+pub invariant_of-self : goal.invariant_of-self
+invariant_of-self c =
     let b = c.args.self.now in
     let buys = c.clear.ensures in
     let sells = c.clear-2.ensures in
     let places = c.clear-3.ensures in
-    let ns = nodes_by_order c.clear-3.new.self in (
-      ap (λ s. same_side s Buy) buys.side ∙ b.buys_side,
-      (
-        ap (λ s. same_side s Sell) sells.side ∙ b.sells_side,
-        (
-          (λ k p. none_placed (levels_of c.clear.new.self) ns buys.levels places.nodes k Buy p),
-          (
-            (λ k p. none_placed (levels_of c.clear-2.new.self) ns sells.levels places.nodes k Sell p),
-            (omega (arith, ap resting buys.levels, ap resting sells.levels, ap length places.nodes), (places.capacity ∙ b.room, tt)),
-          ),
-        ),
-      ),
-    )
+    let ns = nodes_by_order c.clear-3.new.self in
+    record {
+      buys_side = ap (λ s. same_side s Buy) buys.side ∙ b.buys_side;
+      sells_side = ap (λ s. same_side s Sell) sells.side ∙ b.sells_side;
+      bought = (λ k p. none_placed (levels_of c.clear.new.self) ns buys.levels places.nodes k Buy p);
+      sold = (λ k p. none_placed (levels_of c.clear-2.new.self) ns sells.levels places.nodes k Sell p);
+      counted = omega (arith, ap resting buys.levels, ap resting sells.levels, ap length places.nodes);
+      room = places.capacity ∙ b.room;
+    }

@@ -17,7 +17,7 @@ returns c =
     let k : OrderId = record { order = c.args.order; member = c.args.member } in
     record {
       value =
-          c.is-some.ensures
+          c.is_some.ensures
           ∙ some_mapped (λ x. x.now) c.get.result
           ∙ ap is_some c.get.ensures.value
           ∙ sym (known_is k (place_of (nodes_by_order b.places) k) (levels_of b.buys) (levels_of b.sells) (b.bought k) (b.sold k));

@@ -7,21 +7,17 @@ use Rattle.market.specs.Tally.{same_side}
 use Rattle.book.proofs.Known.{none_placed}
 use Rattle.book.proofs.book.Book.new.Goals as goal
 
-pub invariant-of-result : goal.invariant-of-result
-invariant-of-result c =
-    let buys = c.in-ok-buys.ensures.made in
-    let sells = c.in-ok-sells.ensures.made in
-    let places = c.in-ok-places.ensures.made in
-    let ns = nodes_by_order c.in-ok-places.places in (
-      ap (λ s. same_side s Buy) buys.1,
-      (
-        ap (λ s. same_side s Sell) sells.1,
-        (
-          (λ k p. none_placed (levels_of c.in-ok-buys.buys) ns buys.0 places.0 k Buy p),
-          (
-            (λ k p. none_placed (levels_of c.in-ok-sells.sells) ns sells.0 places.0 k Sell p),
-            (omega (arith, ap resting buys.0, ap resting sells.0, ap length places.0), (places.1, tt)),
-          ),
-        ),
-      ),
-    )
+pub invariant_of-result : goal.invariant_of-result
+invariant_of-result c =
+    let buys = c.in_ok-buys.ensures.made in
+    let sells = c.in_ok-sells.ensures.made in
+    let places = c.in_ok-places.ensures.made in
+    let ns = nodes_by_order c.in_ok-places.places in
+    record {
+      buys_side = ap (λ s. same_side s Buy) buys.1;
+      sells_side = ap (λ s. same_side s Sell) sells.1;
+      bought = (λ k p. none_placed (levels_of c.in_ok-buys.buys) ns buys.0 places.0 k Buy p);
+      sold = (λ k p. none_placed (levels_of c.in_ok-sells.sells) ns sells.0 places.0 k Sell p);
+      counted = omega (arith, ap resting buys.0, ap resting sells.0, ap length places.0);
+      room = places.1;
+    }

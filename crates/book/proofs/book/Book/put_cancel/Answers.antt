@@ -42,74 +42,65 @@ module _ (k : OrderId) (place : Place) (s : Side) (ls : List Level) (ns : List (
       (old k place.price ∙ ap (λ o. told o s place.price) is ∙ told_itself place s e)
       (λ p ne. old k p ∙ ap (λ o. told o s p) is ∙ told_off place s p ne)
 
-pub invariant-of-self : goal.invariant-of-self
-invariant-of-self c =
+pub invariant_of-self : goal.invariant_of-self
+invariant_of-self c =
     let b = c.args.self.now in
     let k = key_of c.args.cancel.now in
     let ns = nodes_by_order b.places in
     let e = c.remove.ensures in
-    let same : nodes_by_order c.remove.new.self ≡ ns = e.nodes ∙ without_none by_order_id ns k (sym c.in-None.ensures.value) in (
-      b.buys_side,
-      (
-        b.sells_side,
-        (
-          (λ j p. b.bought j p ∙ ap (λ ms. told (place_of ms j) Buy p) (sym same)),
-          ((λ j p. b.sold j p ∙ ap (λ ms. told (place_of ms j) Sell p) (sym same)), (b.counted ∙ ap length (sym same), (e.capacity ∙ b.room, tt))),
-        ),
-      ),
-    )
+    let same : nodes_by_order c.remove.new.self ≡ ns = e.nodes ∙ without_none by_order_id ns k (sym c.in-None.ensures.value) in
+    record {
+      buys_side = b.buys_side;
+      sells_side = b.sells_side;
+      bought = (λ j p. b.bought j p ∙ ap (λ ms. told (place_of ms j) Buy p) (sym same));
+      sold = (λ j p. b.sold j p ∙ ap (λ ms. told (place_of ms j) Sell p) (sym same));
+      counted = b.counted ∙ ap length (sym same);
+      room = e.capacity ∙ b.room;
+    }
 
-pub invariant-of-self-in-Buy : goal.invariant-of-self-in-Buy
-invariant-of-self-in-Buy c =
+pub invariant_of-self-in-Buy : goal.invariant_of-self-in-Buy
+invariant_of-self-in-Buy c =
     let b = c.args.self.now in
     let k = key_of c.args.cancel.now in
     let place = c.in-Some.node.value in
     let ns = nodes_by_order b.places in
     let ls = levels_of b.buys in
     let e = c.remove.ensures in
-    let t = c.take-out-taken.ensures in
+    let t = c.take_out-taken.ensures in
     let is : place_of ns k ≡ Some place = valued ns k c.in-Some.ensures.value in
     let up = b.places.ascends in
     let shrunk : length (nodes_by_order c.remove.new.self) + 1 ≡ length ns = ap (λ ms. length ms + 1) e.nodes ∙ length_less ns k (ap is_some is) in
-    let fewer : resting (levels_of c.take-out-taken.new.mine) + 1 ≡ resting ls = ap (λ ys. resting ys + 1) t.levels ∙ once k place Buy ls ns is b.bought c.in-Buy.is in (
-      ap (λ s. same_side s Buy) t.side ∙ b.buys_side,
-      (
-        b.sells_side,
-        (
-          (λ j p. ap (held j p) t.levels ∙ told_cut k ns up Buy ls b.bought j p ∙ ap (λ ms. told (place_of ms j) Buy p) (sym e.nodes)),
-          (
-            (λ j p. told_stays k ns up place is Sell (levels_of b.sells) (ap (λ s. same_side s Sell) c.in-Buy.is) b.sold j p ∙ ap (λ ms. told (place_of ms j) Sell p) (sym e.nodes)),
-            (omega (arith, b.counted, shrunk, fewer), (e.capacity ∙ b.room, tt)),
-          ),
-        ),
-      ),
-    )
+    let fewer : resting (levels_of c.take_out-taken.new.mine) + 1 ≡ resting ls = ap (λ ys. resting ys + 1) t.levels ∙ once k place Buy ls ns is b.bought c.in-Buy.is in
+    record {
+      buys_side = ap (λ s. same_side s Buy) t.side ∙ b.buys_side;
+      sells_side = b.sells_side;
+      bought = (λ j p. ap (held j p) t.levels ∙ told_cut k ns up Buy ls b.bought j p ∙ ap (λ ms. told (place_of ms j) Buy p) (sym e.nodes));
+      sold = (λ j p. told_stays k ns up place is Sell (levels_of b.sells) (ap (λ s. same_side s Sell) c.in-Buy.is) b.sold j p ∙ ap (λ ms. told (place_of ms j) Sell p) (sym e.nodes));
+      counted = omega (arith, b.counted, shrunk, fewer);
+      room = e.capacity ∙ b.room;
+    }
 
-pub invariant-of-self-in-Sell : goal.invariant-of-self-in-Sell
-invariant-of-self-in-Sell c =
+pub invariant_of-self-in-Sell : goal.invariant_of-self-in-Sell
+invariant_of-self-in-Sell c =
     let b = c.args.self.now in
     let k = key_of c.args.cancel.now in
     let place = c.in-Some.node.value in
     let ns = nodes_by_order b.places in
     let ls = levels_of b.sells in
     let e = c.remove.ensures in
-    let t = c.take-out-taken-in-Sell.ensures in
+    let t = c.take_out-taken-in-Sell.ensures in
     let is : place_of ns k ≡ Some place = valued ns k c.in-Some.ensures.value in
     let up = b.places.ascends in
     let shrunk : length (nodes_by_order c.remove.new.self) + 1 ≡ length ns = ap (λ ms. length ms + 1) e.nodes ∙ length_less ns k (ap is_some is) in
-    let fewer : resting (levels_of c.take-out-taken-in-Sell.new.mine) + 1 ≡ resting ls = ap (λ ys. resting ys + 1) t.levels ∙ once k place Sell ls ns is b.sold c.in-Sell.is in (
-      b.buys_side,
-      (
-        ap (λ s. same_side s Sell) t.side ∙ b.sells_side,
-        (
-          (λ j p. told_stays k ns up place is Buy (levels_of b.buys) (ap (λ s. same_side s Buy) c.in-Sell.is) b.bought j p ∙ ap (λ ms. told (place_of ms j) Buy p) (sym e.nodes)),
-          (
-            (λ j p. ap (held j p) t.levels ∙ told_cut k ns up Sell ls b.sold j p ∙ ap (λ ms. told (place_of ms j) Sell p) (sym e.nodes)),
-            (omega (arith, b.counted, shrunk, fewer), (e.capacity ∙ b.room, tt)),
-          ),
-        ),
-      ),
-    )
+    let fewer : resting (levels_of c.take_out-taken-in-Sell.new.mine) + 1 ≡ resting ls = ap (λ ys. resting ys + 1) t.levels ∙ once k place Sell ls ns is b.sold c.in-Sell.is in
+    record {
+      buys_side = b.buys_side;
+      sells_side = ap (λ s. same_side s Sell) t.side ∙ b.sells_side;
+      bought = (λ j p. told_stays k ns up place is Buy (levels_of b.buys) (ap (λ s. same_side s Buy) c.in-Sell.is) b.bought j p ∙ ap (λ ms. told (place_of ms j) Buy p) (sym e.nodes));
+      sold = (λ j p. ap (held j p) t.levels ∙ told_cut k ns up Sell ls b.sold j p ∙ ap (λ ms. told (place_of ms j) Sell p) (sym e.nodes));
+      counted = omega (arith, b.counted, shrunk, fewer);
+      room = e.capacity ∙ b.room;
+    }
 
 pub returns : goal.returns
 returns c =
@@ -130,22 +121,22 @@ returns c =
             entries = ap told-by w.event-is ∙ sym (ap (λ (o : Outcome). o.entries) made);
           }
       | in-Some+in-Buy w ↦
-          let t = w.take-out-taken.ensures in
-          let made = cancel_buy d m w.take-out-taken.result t.value in
+          let t = w.take_out-taken.ensures in
+          let made = cancel_buy d m w.take_out-taken.result t.value in
           let new : List Level → Market = λ ls. record { buys = ls; sells = levels_of b.sells } in
           record {
             market = ap market_of w.self-is ∙ ap new t.levels ∙ sym (ap (λ (o : Outcome). o.market) made);
-            entries = ap told-by w.event-is ∙ ap (λ s. told-by (Cancelled s w.take-out-taken.result.lots)) w.in-Buy.is ∙ sym (ap (λ (o : Outcome). o.entries) made);
+            entries = ap told-by w.event-is ∙ ap (λ s. told-by (Cancelled s w.take_out-taken.result.lots)) w.in-Buy.is ∙ sym (ap (λ (o : Outcome). o.entries) made);
           }
       | in-Some+in-Sell w ↦
-          let t = w.take-out-taken-in-Sell.ensures in
+          let t = w.take_out-taken-in-Sell.ensures in
           let place = w.in-Some.node.value in
           let is : place_of ns k ≡ Some place = valued ns k w.in-Some.ensures.value in
           let off : (p : ℕ) → told (place_of ns k) Buy p ≡ 0 = λ p. ap (λ o. told o Buy p) is ∙ told_other place Buy p (ap (λ s. same_side s Buy) w.in-Sell.is) in
-          let made = cancel_sell d m w.take-out-taken-in-Sell.result (absent k (place_of ns k) Buy (levels_of b.buys) (b.bought k) off) t.value in
+          let made = cancel_sell d m w.take_out-taken-in-Sell.result (absent k (place_of ns k) Buy (levels_of b.buys) (b.bought k) off) t.value in
           let new : List Level → Market = λ ls. record { buys = levels_of b.buys; sells = ls } in
           record {
             market = ap market_of w.self-is ∙ ap new t.levels ∙ sym (ap (λ (o : Outcome). o.market) made);
-            entries = ap told-by w.event-is ∙ ap (λ s. told-by (Cancelled s w.take-out-taken-in-Sell.result.lots)) w.in-Sell.is ∙ sym (ap (λ (o : Outcome). o.entries) made);
+            entries = ap told-by w.event-is ∙ ap (λ s. told-by (Cancelled s w.take_out-taken-in-Sell.result.lots)) w.in-Sell.is ∙ sym (ap (λ (o : Outcome). o.entries) made);
           }
     ]

@@ -15,11 +15,11 @@ returns-in-New g c =
     let out = put split (figures c.args.command.now) m in
     let done = put_order split (order_figures c.in-New.order) m in
     let is : done ≡ out = sym (ap (λ x. put split (figures x) m) c.in-New.is) in
-    let e = c.put-order.ensures in
-    let long : 2049 ≤ length l = omega (arith, c.if-list-lt-MOST-ENTRIES.false) in
+    let e = c.put_order.ensures in
+    let long : 2049 ≤ length l = omega (arith, c.if-list-lt-MOST_ENTRIES.false) in
     let count = length out.entries in
-    let l' = c.put-order.new.list in
-    let n = c.put-order.result in
+    let l' = c.put_order.new.list in
+    let n = c.put_order.result in
     record {
       answers = ap answered (count_from n l l' done.entries e.front e.back e.upto ∙ ap (λ (x : Outcome). length x.entries) is) ∙ sym (putting_done (length l) count long);
       market = e.market ∙ ap (λ (x : Outcome). x.market) is ∙ sym (if_put (length l) count out.market m long);

@@ -38,18 +38,20 @@ rest-requires c =
       lots = tradable_from c.args.left more c.requires.most;
     }
 
-pub invariant-of-self : goal.invariant-of-self
-invariant-of-self c =
+pub invariant_of-self : goal.invariant_of-self
+invariant_of-self c =
     let b = c.args.self.now in
     let e = c.rest.ensures in
     let t : Together Buy (levels_of b.buys) (levels_of c.rest.new.mine) (nodes_by_order b.places) (nodes_by_order c.rest.new.places) =
-    subst (λ s. Together s (levels_of b.buys) (levels_of c.rest.new.mine) (nodes_by_order b.places) (nodes_by_order c.rest.new.places)) c.in-Buy.is e.together in (
-      ap (λ s. same_side s Buy) e.side ∙ b.buys_side,
-      (
-        b.sells_side,
-        (t.placed, ((λ k p. b.sold k p ∙ sym (t.others k p)), (omega (arith, b.counted, t.count), (e.room ∙ b.room, tt)))),
-      ),
-    )
+    subst (λ s. Together s (levels_of b.buys) (levels_of c.rest.new.mine) (nodes_by_order b.places) (nodes_by_order c.rest.new.places)) c.in-Buy.is e.together in
+    record {
+      buys_side = ap (λ s. same_side s Buy) e.side ∙ b.buys_side;
+      sells_side = b.sells_side;
+      bought = t.placed;
+      sold = (λ k p. b.sold k p ∙ sym (t.others k p));
+      counted = omega (arith, b.counted, t.count);
+      room = e.room ∙ b.room;
+    }
 
 pub rest-requires-in-Sell : goal.rest-requires-in-Sell
 rest-requires-in-Sell c =
@@ -68,15 +70,17 @@ rest-requires-in-Sell c =
       lots = tradable_from c.args.left more c.requires.most;
     }
 
-pub invariant-of-self-in-Sell : goal.invariant-of-self-in-Sell
-invariant-of-self-in-Sell c =
+pub invariant_of-self-in-Sell : goal.invariant_of-self-in-Sell
+invariant_of-self-in-Sell c =
     let b = c.args.self.now in
     let e = c.rest-in-Sell.ensures in
     let t : Together Sell (levels_of b.sells) (levels_of c.rest-in-Sell.new.mine) (nodes_by_order b.places) (nodes_by_order c.rest-in-Sell.new.places) =
-    subst (λ s. Together s (levels_of b.sells) (levels_of c.rest-in-Sell.new.mine) (nodes_by_order b.places) (nodes_by_order c.rest-in-Sell.new.places)) c.in-Sell.is e.together in (
-      b.buys_side,
-      (
-        ap (λ s. same_side s Sell) e.side ∙ b.sells_side,
-        ((λ k p. b.bought k p ∙ sym (t.others k p)), (t.placed, (omega (arith, b.counted, t.count), (e.room ∙ b.room, tt)))),
-      ),
-    )
+    subst (λ s. Together s (levels_of b.sells) (levels_of c.rest-in-Sell.new.mine) (nodes_by_order b.places) (nodes_by_order c.rest-in-Sell.new.places)) c.in-Sell.is e.together in
+    record {
+      buys_side = b.buys_side;
+      sells_side = ap (λ s. same_side s Sell) e.side ∙ b.sells_side;
+      bought = (λ k p. b.bought k p ∙ sym (t.others k p));
+      sold = t.placed;
+      counted = omega (arith, b.counted, t.count);
+      room = e.room ∙ b.room;
+    }
