@@ -4,7 +4,7 @@ use Rattle.std.proofs.lemmas.Bool.{both_ways}
 use Rattle.drive.specs.Medium.{medium, Written}
 use Rattle.drive.proofs.Tested.{passed_case, passed_ok}
 use Rattle.exports.proofs.drives.write_in_turn.Goals as goal
-use Rattle.exports.proofs.drives.write_in_turn.Goals.{then-is-ok, else-is-ok}
+use Rattle.exports.proofs.drives.write_in_turn.Goals.{then-is_ok, else-is_ok}
 
 pub loop-i-preserved : goal.loop-i-preserved
 loop-i-preserved g c =
@@ -20,5 +20,5 @@ loop-i-preserved g c =
     let low = mod_below c.loop-i.i count some in
     let within : at < (means d).count = omega (arith, low, inv.1) in
     let w = passed_case (Written (means d) at _ (means e)) (e ≡ d) r (means d).count at _ within refl c.write-done.ensures.answers c.write-done.ensures.writes in
-    let ok = c.is-ok.ensures.value ∙ passed_ok r (means d).count at _ within refl c.write-done.ensures.answers in
-    (elim c.if-is-ok.branch [ then-is-ok x ↦ omega (arith, x.answered-is, inv.0) | else-is-ok x ↦ absurd (both_ways c.is-ok.result x.if-is-ok.false ok) ], w.as-many ∙ inv.1)
+    let ok = c.is_ok.ensures.value ∙ passed_ok r (means d).count at _ within refl c.write-done.ensures.answers in
+    (elim c.if-is_ok.branch [ then-is_ok x ↦ omega (arith, x.answered-is, inv.0) | else-is_ok x ↦ absurd (both_ways c.is_ok.result x.if-is_ok.false ok) ], w.as_many ∙ inv.1)

@@ -24,8 +24,8 @@ returns-in-Err c =
     let a = c.args in
     let b = c.args.out.now in
     let nothing : text_of (tested_order (order_of a.member a.number a.order a.buys a.lots a.price)) ≡ [] =
-    ap (λ (s : Side). text_of (tested_order (record { member = a.member; number = a.number; order = a.order; side = s; lots = a.lots; price = a.price }))) (sym c.side-of-side.ensures.value)
-    ∙ ap text_of (sym c.in-Err.ensures.answer) ∙ no_text c.in-Err.-range in
+    ap (λ (s : Side). text_of (tested_order (record { member = a.member; number = a.number; order = a.order; side = s; lots = a.lots; price = a.price }))) (sym c.side_of-side.ensures.value)
+    ∙ ap text_of (sym c.in-Err.ensures.answer) ∙ no_text c.in-Err._range in
     record {
       value = same (leb 0 (length b)) 0 ∙ ap (λ t. written_length t (length b)) (sym nothing);
       writes = same (leb 0 (length b)) b ∙ ap (λ t. written_into t b) (sym nothing);
