@@ -1,8 +1,8 @@
 // A feed's steps.
 ghost use Rattle.std.specs.Prelude.{◌≡◌, ◌+◌, ◌<◌, ◌≤◌, length, MatchOption};
-ghost use Rattle.console.specs.Feed.{source, place as place_of, taken as TakenOf, left, answer, next, bytes_taken, messages_taken};
+ghost use Rattle.console.specs.Feed.{source, place as place_of, taken as taken_of, left, answer, next, bytes_taken, messages_taken};
 ghost use Rattle.fix.specs.Message.{parse_first};
-ghost use Rattle.fix.specs.Refusal.{place_of as IsPlaceIn};
+ghost use Rattle.fix.specs.Refusal.{place_of as place_in};
 
 use crate::feed::{Feed, Stopped};
 use fix::{Command, MessageRefusal, read_first};
@@ -12,7 +12,7 @@ impl<'a> Feed<'a> {
     pub fn new(bytes: &'a [u8]) -> Feed<'a>
         ensures source { source result ≡ bytes.now }
         ensures place { place_of result ≡ 0 }
-        ensures taken { TakenOf result ≡ 0 }
+        ensures taken { taken_of result ≡ 0 }
     {
         Feed {
             bytes,
@@ -30,7 +30,7 @@ impl<'a> Feed<'a> {
 
     /// How many messages were taken.
     pub fn taken(&self) -> usize
-        ensures value { result ≡ TakenOf self.now }
+        ensures value { result ≡ taken_of self.now }
     {
         self.count
     }
@@ -40,7 +40,7 @@ impl<'a> Feed<'a> {
         ensures answer { answer result ≡ next self.old }
         ensures source { source self.new ≡ source self.old }
         ensures place { place_of self.new ≡ place_of self.old + bytes_taken (parse_first (left self.old)) }
-        ensures taken { TakenOf self.new ≡ TakenOf self.old + messages_taken (parse_first (left self.old)) }
+        ensures taken { taken_of self.new ≡ taken_of self.old + messages_taken (parse_first (left self.old)) }
     {
         let at = self.at;
         let rest = &self.bytes[at..];
@@ -64,7 +64,7 @@ impl<'a> Feed<'a> {
 
 /// The place of a refusal within its message.
 fn place_in(why: MessageRefusal) -> usize
-    ensures { result ≡ IsPlaceIn why }
+    ensures { result ≡ place_in why }
 {
     match why {
         MessageRefusal::WrongField { place } => place,
