@@ -5,7 +5,7 @@ use Rattle.std.proofs.lemmas.List.{at_drop_more, at_drop_all}
 use Rattle.std.proofs.lemmas.Bool.{leb-true, le-leb, eqb-true, eq-eqb, ne_eqb, cases_Bool}
 use Rattle.std.proofs.lemmas.Bool.Decides.{Decides-and, Decides-like}
 use Rattle.std.proofs.ByRecursion.{Decides-by_and}
-use Rattle.answers.specs.Answer.{Answer, answered, refused}
+use Rattle.answers.specs.Answer.{answered, refused}
 use Rattle.allocation.specs.Range.{most_lots, most_orders, tradable, all_tradable, in_range, tested, Tradable, InRange, TestsAsTold}
 use Rattle.allocation.specs.Rows.{sum_cons}
 

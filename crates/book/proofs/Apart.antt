@@ -1,10 +1,9 @@
 -- The levels of a side have prices of their own, and something rests at each.
-use Rattle.std.proofs.Common.{◌≡◌, ℕ, zero, suc, ◌+◌, ◌-◌, ◌<◌, ◌≤◌, Bool, true, false, cond, ◌&&◌, eqb, ltb, ◌⊎◌, List, [], ◌∷◌, ◌++◌, length, Some, None, vec_items, Option, sym, refl, ap, ◌∙◌, ⊎_elim, arith}
-use Rattle.std.specs.Ordering.{is_lt}
+use Rattle.std.proofs.Common.{◌≡◌, ℕ, ◌+◌, ◌<◌, ◌≤◌, Bool, true, false, cond, eqb, List, [], ◌∷◌, length, Some, None, vec_items, Option, sym, refl, ap, ◌∙◌, ⊎_elim, arith}
 use Rattle.std.proofs.lemmas.Bool.{cases_Bool, cond-true, cond-false, eqb-true, eqb-false, eq-eqb, ne_eqb, ltb-true}
 use Rattle.fix.specs.declared.command.Side.{Side}
 use Rattle.fix.specs.declared.command.Side.TheVariants.{Buy, Sell}
-use Rattle.ordered.specs.Order.{by_number, by_price}
+use Rattle.ordered.specs.Order.{by_price}
 use Rattle.ordered.specs.Row.{ascending, all_above}
 use Rattle.ordered.specs.declared.key.order_id.OrderId.{OrderId}
 use Rattle.ordered.specs.declared.key.price.Price.{Price}
@@ -17,8 +16,8 @@ use Rattle.market.specs.Put.{kept, out_of_queue, out_of_levels}
 use Rattle.side.specs.declared.book_side.BookSide.{BookSide}
 use Rattle.side.specs.Levels.{levels_of, queue_at, out_at}
 use Rattle.side.specs.Rank.{in_range, turned, priced}
-use Rattle.side.specs.Row.{seen, stands, standing}
-use Rattle.side.proofs.Ladder.{less_is, range_low, range_high, stands_range, stands_some, standing_head, standing_tail}
+use Rattle.side.specs.Row.{seen, standing}
+use Rattle.side.proofs.Ladder.{less_is, range_high, stands_range, stands_some, standing_head, standing_tail}
 use Rattle.book.specs.Place.{occurs, held}
 
 abbrev pub NoneAt : ℕ → List Level → Type 0

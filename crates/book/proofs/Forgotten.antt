@@ -1,7 +1,7 @@
 -- Places of orders that were filled whole are taken out.
-use Rattle.std.proofs.Common.{◌≡◌, ℕ, zero, suc, ◌+◌, ◌-◌, ◌<◌, ◌≤◌, Bool, true, false, cond, ◌&&◌, eqb, ltb, ◌⊎◌, List, [], ◌∷◌, ◌++◌, length, is_some, Some, None, Option, sym, refl, ap, ◌∙◌, subst, ⊎_elim, arith}
-use Rattle.std.proofs.lemmas.Bool.{cases_Bool, cases_lt, cond-true, cond-false, and_parts, lt-ltb, le-ltb, eq-eqb, ne_eqb}
-use Rattle.allocation.specs.Range.{tradable, all_tradable}
+use Rattle.std.proofs.Common.{◌≡◌, ℕ, zero, suc, ◌+◌, ◌-◌, ◌<◌, ◌≤◌, Bool, true, false, cond, ◌&&◌, eqb, ltb, List, [], ◌∷◌, ◌++◌, length, is_some, Some, None, Option, sym, refl, ap, ◌∙◌, subst, ⊎_elim, arith}
+use Rattle.std.proofs.lemmas.Bool.{cases_Bool, cases_lt, cond-true, cond-false, lt-ltb, le-ltb, eq-eqb, ne_eqb}
+use Rattle.allocation.specs.Range.{all_tradable}
 use Rattle.fix.specs.Command.{NewOrder}
 use Rattle.fix.specs.declared.command.Side.{Side}
 use Rattle.ordered.specs.Order.{by_order_id}
@@ -12,10 +12,9 @@ use Rattle.ordered.proofs.Ascends.{ascending_without}
 use Rattle.level.specs.Fits.{Fits}
 use Rattle.level.proofs.Queues.{first_tradable, rest_tradable, tradable_least}
 use Rattle.market.specs.declared.entry.Entry.{Entry}
-use Rattle.market.specs.declared.entry.Event.TheVariants.{Filled}
 use Rattle.market.specs.declared.resting.Resting.{Resting}
 use Rattle.market.specs.Market.{lots_of, is_of, other}
-use Rattle.market.specs.Put.{entry, less, after_fills, of_fill, of_fills}
+use Rattle.market.specs.Put.{less, after_fills, of_fill, of_fills}
 use Rattle.market.specs.Tally.{same_side}
 use Rattle.book.specs.declared.place.Place.{Place}
 use Rattle.book.specs.Place.{occurs, place_of, is_gone, id_of, forgotten}

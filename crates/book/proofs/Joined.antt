@@ -1,7 +1,7 @@
 -- An order joins the levels of its side.
-use Rattle.std.proofs.Common.{◌≡◌, ℕ, zero, suc, ◌+◌, ◌<◌, ◌≤◌, Bool, true, false, cond, ◌&&◌, eqb, ltb, ◌⊎◌, List, [], ◌∷◌, ◌++◌, length, Some, None, Option, sym, refl, ap, ◌∙◌, ⊎_elim, arith}
+use Rattle.std.proofs.Common.{◌≡◌, ℕ, ◌+◌, Bool, true, false, cond, ◌&&◌, eqb, List, [], ◌∷◌, ◌++◌, None, Option, sym, refl, ap, ◌∙◌, ⊎_elim, arith}
 use Rattle.std.proofs.lemmas.List.{length_push}
-use Rattle.std.proofs.lemmas.Bool.{cases_Bool, cond-true, cond-false, ltb-true, ltb-false, eq-eqb, ne_eqb}
+use Rattle.std.proofs.lemmas.Bool.{cases_Bool, cond-true, cond-false, ltb-false}
 use Rattle.fix.specs.declared.command.Side.{Side}
 use Rattle.fix.specs.declared.command.Side.TheVariants.{Buy, Sell}
 use Rattle.ordered.specs.Order.{by_order_id}
@@ -12,11 +12,10 @@ use Rattle.ordered.proofs.Lookups.{length_put}
 use Rattle.market.specs.declared.resting.Resting.{Resting}
 use Rattle.market.specs.Market.{Level, is_of, better, other, resting}
 use Rattle.market.specs.Put.{joins}
-use Rattle.market.specs.Tally.{same_side}
 use Rattle.book.specs.declared.place.Place.{Place}
 use Rattle.book.specs.Place.{occurs, held, place_of, told}
 use Rattle.book.specs.Step.{Placed, Together}
-use Rattle.book.proofs.Places.{id, is_id, id_is, not_id, place_put_same, place_put_other, same_itself, other_same}
+use Rattle.book.proofs.Places.{id, is_id, not_id, place_put_same, place_put_other, same_itself, other_same}
 
 occurs_push : (k : OrderId) (q : List Resting) (r : Resting) → occurs k (q ++ r ∷ []) ≡ occurs k q + cond (is_of k.member k.order r) 1 0
 occurs_push k [] r = omega arith

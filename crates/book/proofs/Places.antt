@@ -1,22 +1,22 @@
 -- Places of orders: how often an order stands in queues and levels, and what a map of places tells of it.
-use Rattle.std.proofs.Common.{◌≡◌, ℕ, zero, suc, ◌+◌, ◌-◌, ◌<◌, ◌≤◌, Bool, true, false, cond, ◌&&◌, eqb, ltb, ◌⊎◌, List, [], ◌∷◌, ◌++◌, length, is_some, Some, None, Option, Ordering, Less, Equal, Greater, sym, refl, ap, ◌∙◌, inl, inr, ⊎_elim, arith}
+use Rattle.std.proofs.Common.{◌≡◌, ℕ, ◌+◌, ◌<◌, ◌≤◌, Bool, true, false, cond, ◌&&◌, eqb, ◌⊎◌, List, length, is_some, Some, None, Option, Ordering, Less, Equal, Greater, sym, refl, ap, ◌∙◌, inl, inr, arith}
 use Rattle.std.specs.Option.{option_map}
-use Rattle.std.specs.Ordering.{is_eq, ordering_then, ordering_reverse}
-use Rattle.std.proofs.lemmas.Bool.{cases_Bool, cond-true, cond-false, and_parts, and_from, eqb-true, eq-eqb, ne_eqb, true≢false}
+use Rattle.std.specs.Ordering.{ordering_then, ordering_reverse}
+use Rattle.std.proofs.lemmas.Bool.{and_parts, and_from, eqb-true, eq-eqb, true≢false}
 use Rattle.std.proofs.lemmas.Bool.Decides.{nat_tests}
 use Rattle.fix.specs.declared.command.Side.{Side}
 use Rattle.fix.specs.declared.command.Side.TheVariants.{Buy, Sell}
 use Rattle.ordered.specs.Order.{Total, by_number, by_order_id}
-use Rattle.ordered.specs.Row.{node_with, lookup, put, without, ascending}
+use Rattle.ordered.specs.Row.{node_with, put, without, ascending}
 use Rattle.ordered.specs.declared.key.order_id.OrderId.{OrderId}
 use Rattle.ordered.specs.declared.node.Node.{Node}
 use Rattle.ordered.proofs.Lookups.{node_put_same, node_put_other, node_without_same, node_without_other, length_without}
 use Rattle.ordered.proofs.Orders.{ne_from}
 use Rattle.market.specs.declared.resting.Resting.{Resting}
-use Rattle.market.specs.Market.{Level, is_of, other}
+use Rattle.market.specs.Market.{is_of, other}
 use Rattle.market.specs.Tally.{same_side}
 use Rattle.book.specs.declared.place.Place.{Place}
-use Rattle.book.specs.Place.{occurs, held, place_of, told}
+use Rattle.book.specs.Place.{place_of, told}
 
 -- ---- the order of the names of orders
 

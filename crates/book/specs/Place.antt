@@ -1,7 +1,6 @@
 -- Where orders rest, as the levels have it and as the map of places has it.
-use Rattle.std.specs.Prelude.{ℕ, ◌+◌, Bool, true, false, cond, ◌&&◌, List, [], ◌∷◌, Some, None, Option, ◌==◌}
+use Rattle.std.specs.Prelude.{ℕ, ◌+◌, Bool, false, cond, ◌&&◌, List, [], ◌∷◌, Some, None, Option, ◌==◌}
 use Rattle.fix.specs.declared.command.Side.{Side}
-use Rattle.fix.specs.declared.command.Side.TheVariants.{Buy, Sell}
 use Rattle.ordered.specs.Order.{by_order_id}
 use Rattle.ordered.specs.Row.{lookup, without}
 use Rattle.ordered.specs.declared.key.order_id.OrderId.{OrderId}

@@ -1,6 +1,6 @@
 -- A feed's next message, by what its first bytes say.
-use Rattle.std.proofs.Common.{◌≡◌, ℕ, ◌+◌, true, false, cond, eqb, List, [], ◌∷◌, length, Some, None, Option, sym, refl, ap, ◌∙◌, subst, add-zero}
-use Rattle.answers.specs.Answer.{Answer, answered, refused}
+use Rattle.std.proofs.Common.{◌≡◌, ℕ, ◌+◌, true, false, cond, eqb, List, [], length, Some, None, Option, sym, refl, ap, ◌∙◌, add-zero}
+use Rattle.answers.specs.Answer.{Answer}
 use Rattle.fix.specs.Command.{Command}
 use Rattle.fix.specs.Message.{parse_first}
 use Rattle.fix.specs.Refusal

@@ -1,6 +1,6 @@
 -- Rows of acts.
-use Rattle.std.proofs.Common.{◌≡◌, List, [], ◌∷◌, ◌++◌, refl, subst}
-use Rattle.drive.specs.Act.{Act, write, flush, Acted, Does}
+use Rattle.std.proofs.Common.{List, [], ◌∷◌, ◌++◌, refl, subst}
+use Rattle.drive.specs.Act.{Act, Acted, Does}
 use Rattle.drive.specs.Medium.{Medium}
 
 -- no act

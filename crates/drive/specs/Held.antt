@@ -1,11 +1,10 @@
 -- A drive that holds blocks back: what putting out keeps, and a write after it.
-use Rattle.std.specs.Prelude.{◌≡◌, ℕ, ◌<◌, ◌≤◌, List, ◌++◌, length, vec_items, slice_index, refl}
-use Rattle.std.proofs.Common.{sym, ap, subst, ◌∙◌, inl, inr, ⊎_elim, arith}
+use Rattle.std.specs.Prelude.{◌≡◌, ℕ, List, ◌++◌, length, vec_items, slice_index, refl}
+use Rattle.std.proofs.Common.{sym, ap, ◌∙◌, inl, inr, ⊎_elim, arith}
 use Rattle.drive.specs.declared.drives.held_back.HeldBack.{HeldBack}
 use Rattle.drive.specs.Block.{whole, block, spare, joined}
 use Rattle.drive.specs.HeldBack.{view, lies_under, held_visible, held_durable, held_medium, all_put_out, PutOut}
-use Rattle.drive.specs.Medium.{Written, Flushed, Sound, CutAt}
-use Rattle.drive.specs.Plain.{bare}
+use Rattle.drive.specs.Medium.{Written, Flushed, Sound}
 use Rattle.drive.specs.Memory.{memory_joined, joined_same}
 use Rattle.drive.specs.Views.{view_none}
 

@@ -1,12 +1,12 @@
 -- Blocks of a memory, read and written.
-use Rattle.std.specs.Prelude.{◌≡◌, ℕ, zero, suc, ◌+◌, ◌-◌, ◌*◌, ◌<◌, ◌≤◌, List, [], ◌++◌, length, take, drop, Vec, ◌≢◌, refl}
+use Rattle.std.specs.Prelude.{◌≡◌, ℕ, zero, suc, ◌+◌, ◌-◌, ◌*◌, ◌<◌, ◌≤◌, List, ◌++◌, length, take, drop, Vec, ◌≢◌, refl}
 use Rattle.std.proofs.Common.{sym, ap, ◌∙◌, inl, inr, arith, take-append-drop, take-add}
 use Rattle.std.specs.Vec.{with_items}
 use Rattle.std.proofs.lemmas.List.{length-take, length-drop, length-append, drop-take, with_items_is}
 use Rattle.std.proofs.lemmas.Slice.{take-put_mid_below, drop-put_mid, between-put_mid}
 use Rattle.std.proofs.lemmas.Bool.{cases_order}
 use Rattle.drive.specs.Block.{block_size, whole, block, put, spare, joined}
-use Rattle.drive.specs.Medium.{Written, Sound}
+use Rattle.drive.specs.Medium.{Written}
 use Rattle.drive.specs.Plain.{bare}
 use Rattle.drive.specs.Size.{within}
 

@@ -1,5 +1,5 @@
 -- The numbers of the blocks that are held: the first `held` of a row of places.
-use Rattle.std.specs.Prelude.{◌≡◌, ℕ, ◌<◌, List, ◌≢◌, slice_index}
+use Rattle.std.specs.Prelude.{ℕ, ◌<◌, List, ◌≢◌, slice_index}
 
 -- the most blocks that are held
 abbrev pub most_held : ℕ

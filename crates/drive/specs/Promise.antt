@@ -1,7 +1,7 @@
 -- What every kind of drive promises of a power cut. `means` is what its drives mean.
 -- Junk is given by a test, since a statement over every `List ℕ → Type 0` is too large for a contract.
 use Rattle.std.specs.Prelude.{◌≡◌, ℕ, ◌<◌, Bool, T, ◌⊎◌, List, [], ◌∷◌, ◌≢◌}
-use Rattle.drive.specs.Act.{Act, write, flush, Does, CutDuring}
+use Rattle.drive.specs.Act.{Act, write, flush, CutDuring}
 use Rattle.drive.specs.Medium.{Medium, Flushed, CutAt}
 
 -- one of the acts writes c to block b

@@ -2,7 +2,7 @@
 use Rattle.std.specs.Prelude.{◌≡◌, ℕ, zero, suc, ◌+◌, ◌*◌, ◌<◌, ◌≤◌, List, length, vec_items, slice_index}
 use Rattle.std.proofs.Common.{inl, inr, arith, length-take, length-drop}
 use Rattle.std.proofs.lemmas.Bool.{cases_eq, eq-eqb, ne_eqb}
-use Rattle.drive.specs.Block.{block_size, whole, block}
+use Rattle.drive.specs.Block.{block_size, whole}
 use Rattle.drive.specs.Medium.{Sized}
 use Rattle.drive.specs.Plain.{bare_visible, plain_visible}
 use Rattle.drive.specs.HeldBack.{view, lies_under, held_visible}

@@ -1,7 +1,7 @@
 -- What the reader's own searches find.
 use Rattle.std.specs.Prelude.{◌≡◌, ℕ, ◌<◌, ◌≤◌, List, length, drop, Some, None, Option, ◌≢◌, slice_index}
 use Rattle.fields.specs.declared.field.Field.{Field}
-use Rattle.fields.specs.Field.{Front, front}
+use Rattle.fields.specs.Field.{front}
 use Rattle.fields.specs.Kind.{tag_of, value_of}
 
 -- i is the place of the first x, or the length where there is none

@@ -1,5 +1,5 @@
 -- A field has one spelling.
-use Rattle.std.specs.Prelude.{◌≡◌, ℕ, ◌^◌, ◌<◌, ◌≤◌, true, List, ◌++◌, Some, decimal}
+use Rattle.std.specs.Prelude.{◌≡◌, ℕ, ◌^◌, ◌<◌, ◌≤◌, true, List, ◌++◌}
 use Rattle.fields.specs.Kind.{known}
 use Rattle.fields.specs.Row.{number, right, step, shown}
 

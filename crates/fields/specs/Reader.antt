@@ -1,7 +1,6 @@
 -- A reader of fields: the bytes it was given, where it stands, and what a step answers.
 use Rattle.std.specs.Prelude.{◌≡◌, ℕ, ◌≤◌, List, [], ◌∷◌, length, drop, Some, None, Ok, Err, Option, Result}
 use Rattle.answers.specs.Answer.{Answer, answered, refused}
-use Rattle.fields.specs.declared.field.Field.{Field}
 use Rattle.fields.specs.declared.field.Placed.{Placed}
 use Rattle.fields.specs.declared.field.WrongField.{WrongField}
 use Rattle.fields.specs.declared.reader.Reader.{Reader}

@@ -1,9 +1,8 @@
 -- The parts of a message that the writer writes one after the other.
-use Rattle.std.proofs.Common.{◌≡◌, ℕ, ◌+◌, ◌-◌, ◌/◌, ◌%◌, ◌<◌, ◌≤◌, true, false, cond, leb, List, [], ◌∷◌, ◌++◌, length, take, drop, codes, decimal, sum, sym, refl, ap, ◌∙◌, subst, append-nil, zero-add, arith, length-append}
-use native.Mathlib.Nat.{sub-zero}
+use Rattle.std.proofs.Common.{◌≡◌, ℕ, ◌+◌, ◌-◌, ◌%◌, ◌<◌, ◌≤◌, List, [], ◌∷◌, ◌++◌, length, take, drop, codes, decimal, sum, sym, ap, ◌∙◌, subst, append-nil, zero-add, arith, length-append}
 use Rattle.std.proofs.lemmas.Bool.{le-leb, lt-leb, cond-true, cond-false}
 use Rattle.std.proofs.lemmas.List.{take_at}
-use Rattle.answers.specs.Answer.{Answer, answered, refused, if_answered}
+use Rattle.answers.specs.Answer.{answered, refused}
 use Rattle.fields.specs.Field.{written}
 use Rattle.fields.specs.Row.{shown, shown_row}
 use Rattle.fix.specs.declared.buffer.Numbered.{Numbered}
@@ -12,11 +11,10 @@ use Rattle.fix.specs.declared.command.Command.TheVariants as cases
 use Rattle.fix.specs.declared.command.NewOrder as code_order
 use Rattle.fix.specs.declared.command.Cancel as code_cancel
 use Rattle.fix.specs.Command.{Command, Valid, figures, order_figures, cancel_figures}
-use Rattle.fix.specs.Layout
-use Rattle.fix.specs.Layout.{version, check_sum, three_digits, new_order_fields, cancel_fields}
+use Rattle.fix.specs.Layout.{check_sum, three_digits, new_order_fields, cancel_fields}
 use Rattle.fix.specs.Message.{values_of, new_order_values, cancel_values, body_by, front_by, render}
 use Rattle.fix.specs.Refusal.{room}
-use Rattle.fix.specs.Writing.{over_front, over, Wrote, numbers}
+use Rattle.fix.specs.Writing.{over_front, Wrote, numbers}
 use Rattle.fix.proofs.Lengths.{body_length, render_length, version_length, count_length, sum_length}
 use Rattle.fix.proofs.Writes.{wrote_more, room_after}
 

@@ -1,11 +1,11 @@
 -- The count, the sum and the answer, by places.
-use Rattle.std.proofs.Common.{◌≡◌, ℕ, ◌-◌, ◌%◌, ◌<◌, ◌≤◌, true, false, cond, eqb, List, [], ◌∷◌, length, take, drop, sum, sym, refl, ap, ◌∙◌, subst, arith, length-drop}
+use Rattle.std.proofs.Common.{◌≡◌, ℕ, ◌-◌, ◌%◌, ◌<◌, ◌≤◌, cond, eqb, List, [], ◌∷◌, length, take, drop, sum, sym, refl, ap, ◌∙◌, subst, arith, length-drop}
 use native.Mathlib.Nat.{sub-zero}
-use Rattle.answers.specs.Answer.{Answer, answered, refused}
+use Rattle.answers.specs.Answer.{answered, refused}
 use Rattle.fields.specs.Row.{wrong, right}
 use Rattle.std.proofs.lemmas.Bool.{cond-true, cond-false, eq-eqb, ne_eqb}
 use Rattle.std.proofs.lemmas.List.{drop_all}
-use Rattle.fix.specs.Command.{Command, new, cancel, figures}
+use Rattle.fix.specs.Command.{Command, new, cancel}
 use Rattle.fix.specs.declared.command.Side.{Side}
 use Rattle.fix.specs.declared.command.Side.TheVariants.{Buy, Sell}
 use Rattle.fix.specs.Message.{Form, form, side_number, values_of, command_of, checked, whole, parse, with_length, leading, parse_first}

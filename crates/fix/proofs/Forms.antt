@@ -1,6 +1,6 @@
 -- The form of a message, both ways.
-use Rattle.std.proofs.Common.{◌≡◌, ℕ, ◌<◌, ◌≤◌, List, [], ◌∷◌, ◌++◌, length, get_or, Some, sym, refl, ap, ◌∙◌, subst, append_assoc, append-nil, arith}
-use Rattle.fields.specs.Row.{Read, wrong, right, then, step, row, shown, shown_row}
+use Rattle.std.proofs.Common.{◌≡◌, ℕ, ◌<◌, ◌≤◌, List, [], ◌∷◌, ◌++◌, get_or, Some, sym, refl, ap, ◌∙◌, subst, append_assoc, arith}
+use Rattle.fields.specs.Row.{Read, right, then, step, row, shown, shown_row}
 use Rattle.fields.proofs.Numerals.{numeral_back}
 use Rattle.fields.proofs.Rows.{Fit, then_right, step_back, step_only, row_back, row_only}
 use Rattle.fix.specs.Layout.{letter, kind, check_sum, header, fields_of}

@@ -1,8 +1,8 @@
 -- How long messages are.
-use Rattle.std.proofs.Common.{◌≡◌, ℕ, ◌+◌, ◌/◌, ◌%◌, ◌^◌, ◌<◌, ◌≤◌, List, [], ◌∷◌, ◌++◌, length, codes, decimal, sum, sym, refl, ap, ◌∙◌, arith, length-append}
+use Rattle.std.proofs.Common.{◌≡◌, ℕ, ◌+◌, ◌/◌, ◌%◌, ◌^◌, ◌<◌, ◌≤◌, List, [], ◌∷◌, ◌++◌, length, codes, decimal, sum, ap, ◌∙◌, arith, length-append}
 use Rattle.std.proofs.lemmas.Fmt.{length-decimal-le, decimal_nonempty, decimal_digit, decimal_step}
 use Rattle.fields.specs.Field.{written}
-use Rattle.fields.specs.Row.{Shape, number, shown}
+use Rattle.fields.specs.Row.{number, shown}
 use Rattle.fix.specs.Command.{Command, new, cancel, Valid}
 use Rattle.fix.specs.Layout
 use Rattle.fix.specs.Layout.{version, kind, check_sum, three_digits}

@@ -1,5 +1,5 @@
 -- Refusals by their numbers and figures.
-use Rattle.std.specs.Prelude.{ℕ, ◌≤◌, Bool, cond, ◌&&◌, List, [], ◌∷◌, Ok, Err, Result, nat_le}
+use Rattle.std.specs.Prelude.{ℕ, ◌≤◌, Bool, cond, ◌&&◌, [], ◌∷◌, Ok, Err, Result, nat_le}
 use Rattle.answers.specs.Answer.{Answer, answered, refused}
 use Rattle.fix.specs.declared.command.Command as code
 use Rattle.fix.specs.declared.command.NewOrder as code_order

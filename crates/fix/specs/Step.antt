@@ -1,5 +1,5 @@
 -- What the reader's inner steps find.
-use Rattle.std.specs.Prelude.{◌≡◌, ℕ, ◌≤◌, List, length, drop}
+use Rattle.std.specs.Prelude.{ℕ, ◌≤◌, List, length, drop}
 use Rattle.fix.specs.declared.layout.Form as code
 use Rattle.fix.specs.declared.layout.Kind.{Kind}
 use Rattle.fix.specs.declared.layout.Kind.TheVariants as kinds

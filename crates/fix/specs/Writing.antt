@@ -1,5 +1,5 @@
 -- What a write into a buffer leaves.
-use Rattle.std.specs.Prelude.{◌≡◌, ℕ, ◌+◌, ◌≤◌, List, [], ◌∷◌, ◌++◌, length, take, drop, decimal}
+use Rattle.std.specs.Prelude.{◌≡◌, ℕ, ◌+◌, List, [], ◌∷◌, ◌++◌, length, take, drop, decimal}
 use Rattle.fields.specs.Field.{written}
 use Rattle.fix.specs.declared.buffer.Numbered.{Numbered}
 

@@ -1,5 +1,5 @@
 -- What a command does to a market, under any split of a queue: the market after it, and the entries that tell of it.
-use Rattle.std.specs.Prelude.{ℕ, zero, suc, ◌-◌, Bool, cond, not, ◌&&◌, List, [], ◌∷◌, ◌++◌, Some, None, Option, nat_le, nat_lt}
+use Rattle.std.specs.Prelude.{ℕ, zero, suc, ◌-◌, cond, not, ◌&&◌, List, [], ◌∷◌, ◌++◌, Some, None, Option, nat_le, nat_lt}
 use Rattle.fix.specs.declared.command.Side.{Side}
 use Rattle.fix.specs.declared.command.Side.TheVariants.{Buy, Sell}
 use Rattle.fix.specs.Command.{NewOrder, Cancel, Command, new, cancel}

@@ -8,7 +8,7 @@ use Rattle.market.specs.declared.entry.Event.{Event}
 use Rattle.market.specs.declared.entry.Event.TheVariants.{Accepted, Filled, Cancelled, OrderTurnedDown, CancelTurnedDown}
 use Rattle.market.specs.declared.entry.Entry.{Entry}
 use Rattle.market.specs.Market.{Level, Market, other, levels}
-use Rattle.market.specs.Put.{entry, trades, put}
+use Rattle.market.specs.Put.{entry, put}
 
 -- an order, and the price at which it rests
 pub record Standing : Type 0 where

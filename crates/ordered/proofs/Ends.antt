@@ -1,8 +1,8 @@
 -- The first node and the last. Assumes nothing.
-use Rattle.std.proofs.Common.{◌≡◌, ℕ, ◌-◌, Bool, true, false, cond, List, [], ◌∷◌, length, get_or, is_some, Some, None, Option, Ordering, Less, sym, refl, ap, ◌∙◌, subst, ⊎_elim, arith, Bor}
+use Rattle.std.proofs.Common.{◌≡◌, ◌-◌, true, false, List, [], ◌∷◌, length, get_or, is_some, Some, None, Option, Ordering, Less, sym, refl, ap, ◌∙◌, subst, ⊎_elim, arith, Bor}
 use Rattle.std.specs.Option.{option_map}
 use Rattle.std.specs.Slice.{IsGetResult}
-use Rattle.std.specs.Ordering.{is_lt, is_eq, ordering_reverse}
+use Rattle.std.specs.Ordering.{is_eq}
 use Rattle.std.proofs.lemmas.Bool.{cases_Bool, true≢false, false≢true}
 use Rattle.ordered.specs.declared.node.Node.{Node}
 use Rattle.ordered.specs.Order.{Total}

@@ -1,5 +1,5 @@
 -- What an insertion answers. Assumes nothing.
-use Rattle.std.proofs.Common.{◌≡◌, ℕ, ◌<◌, ◌≤◌, Bool, true, false, cond, ltb, List, [], length, is_some, IfErr, Some, None, Ok, Err, Result, Ordering, ap, ◌∙◌, ⊎_elim, arith}
+use Rattle.std.proofs.Common.{◌≡◌, ℕ, ◌<◌, ◌≤◌, Bool, true, false, ltb, List, [], length, is_some, IfErr, None, Ok, Err, Result, Ordering, ap, ◌∙◌, ⊎_elim, arith}
 use Rattle.std.proofs.lemmas.Bool.{cond-true, cond-false, lt-ltb, le-ltb, cases_lt, false≢true, true≢false}
 use Rattle.answers.specs.Answer.{Answer, answered, refused, if_answered}
 use Rattle.ordered.specs.declared.node.Node.{Node}

@@ -1,7 +1,7 @@
 -- What is looked up after a node is put in or taken out. Assumes nothing.
-use Rattle.std.proofs.Common.{◌≡◌, ℕ, suc, ◌+◌, Bool, true, false, cond, List, [], ◌∷◌, length, is_some, Some, None, Option, Ordering, Less, sym, refl, ap, ◌∙◌, ⊎_elim, arith}
+use Rattle.std.proofs.Common.{◌≡◌, ◌+◌, true, false, List, [], ◌∷◌, length, is_some, Some, None, Ordering, sym, refl, ap, ◌∙◌, ⊎_elim, arith}
 use Rattle.std.specs.Ordering.{is_lt, is_eq}
-use Rattle.std.proofs.lemmas.Bool.{cases_Bool, cond-true, cond-false, cond_both, true≢false, false≢true}
+use Rattle.std.proofs.lemmas.Bool.{cases_Bool, cond-true, cond-false, cond_both, false≢true}
 use Rattle.ordered.specs.declared.node.Node.{Node}
 use Rattle.ordered.specs.Order.{Total}
 use Rattle.ordered.specs.Row.{node_with, put, without, all_above, ascending}

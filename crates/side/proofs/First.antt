@@ -1,8 +1,7 @@
 -- The best level: the first node of a row.
-use Rattle.std.proofs.Common.{◌≡◌, ℕ, zero, suc, ◌+◌, ◌-◌, ◌<◌, ◌≤◌, Bool, true, false, cond, ◌&&◌, ltb, leb, List, [], ◌∷◌, ◌++◌, length, get_or, set, sym, refl, ap, ◌∙◌, subst, arith}
+use Rattle.std.proofs.Common.{◌≡◌, ℕ, ◌+◌, ◌<◌, ◌≤◌, true, cond, ◌&&◌, ltb, List, [], ◌∷◌, length, get_or, set, sym, refl, ap, ◌∙◌, arith}
 use Rattle.std.specs.List.{remove}
-use Rattle.std.specs.Ordering.{is_lt}
-use Rattle.std.proofs.lemmas.Bool.{and_parts, and_from, cond-true, lt-ltb, leb-true}
+use Rattle.std.proofs.lemmas.Bool.{and_parts, and_from, cond-true, lt-ltb}
 use Rattle.ordered.specs.Order.{by_price}
 use Rattle.ordered.specs.Row.{ascending, all_above}
 use Rattle.ordered.specs.declared.node.Node.{Node}
@@ -14,7 +13,7 @@ use Rattle.market.specs.Market.{Level, resting, lots_of}
 use Rattle.market.specs.Put.{kept, after_fills}
 use Rattle.side.specs.Meeting.{first_queue, first_rank, best_filled}
 use Rattle.side.specs.Rank.{in_range}
-use Rattle.side.specs.Row.{seen_as, seen, stands, standing}
+use Rattle.side.specs.Row.{seen, stands, standing}
 
 pub first_queue_is : (ns : List (Node Price Held)) (d : Node Price Held) → 0 < length ns → first_queue (seen ns) ≡ queue_of (get_or ns 0 d).value
 first_queue_is [] d h = absurd (omega arith)

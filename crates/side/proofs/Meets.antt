@@ -1,13 +1,10 @@
 -- An incoming order meets one level after another.
-use Rattle.std.proofs.Common.{◌≡◌, ℕ, zero, suc, ◌+◌, ◌-◌, ◌*◌, ◌<◌, ◌≤◌, min, Bool, true, false, cond, ltb, leb, ◌⊎◌, List, [], ◌∷◌, ◌++◌, length, sym, refl, ap, ◌∙◌, subst, inl, inr, ⊎_elim, arith}
-use Rattle.std.proofs.lemmas.List.{length-append}
-use Rattle.std.proofs.lemmas.Bool.{cases_Bool, cases_lt, cond-true, cond-false, le-ltb}
+use Rattle.std.proofs.Common.{◌≡◌, ℕ, zero, suc, ◌+◌, ◌-◌, ◌<◌, ◌≤◌, min, true, false, ltb, ◌⊎◌, List, [], ◌∷◌, ◌++◌, length, sym, refl, ap, ◌∙◌, inl, inr, ⊎_elim, arith}
+use Rattle.std.proofs.lemmas.Bool.{cases_lt, cond-true, cond-false, le-ltb}
 use Rattle.level.specs.Fits.{Fits}
 use Rattle.market.specs.declared.resting.Resting.{Resting}
 use Rattle.fix.specs.declared.command.Side.{Side}
-use Rattle.fix.specs.declared.command.Side.TheVariants.{Buy, Sell}
 use Rattle.fix.specs.Command.{NewOrder}
-use Rattle.market.specs.declared.entry.Entry.{Entry}
 use Rattle.market.specs.Market.{Level, total, lots_of, crosses, resting}
 use Rattle.market.specs.Put.{Met, after_fills, kept, of_fills, meets}
 use Rattle.side.specs.Rank.{turned, at_price, priced}

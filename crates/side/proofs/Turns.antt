@@ -1,5 +1,5 @@
 -- A turn of the loop over the levels.
-use Rattle.std.proofs.Common.{◌≡◌, ℕ, zero, suc, ◌+◌, ◌-◌, ◌*◌, ◌<◌, ◌≤◌, min, Bool, true, false, cond, ◌&&◌, ltb, leb, List, [], ◌∷◌, ◌++◌, length, take, drop, sym, refl, ap, ◌∙◌, ⊎_elim, arith}
+use Rattle.std.proofs.Common.{◌≡◌, ℕ, ◌+◌, ◌-◌, ◌<◌, min, true, false, ◌&&◌, ltb, leb, List, [], ◌∷◌, ◌++◌, length, take, sym, refl, ap, ◌∙◌, ⊎_elim, arith}
 use Rattle.std.proofs.lemmas.List.{append_assoc, length-map}
 use Rattle.std.proofs.lemmas.Bool.{and_parts, and_cases, ltb-true, ltb-false, false≢true}
 use Rattle.ordered.specs.Order.{by_price}
@@ -15,7 +15,7 @@ use Rattle.fix.specs.Command.{NewOrder}
 use Rattle.fix.specs.declared.command.Side.{Side}
 use Rattle.fix.specs.declared.command.Side.TheVariants.{Buy, Sell}
 use Rattle.market.specs.declared.entry.Entry.{Entry}
-use Rattle.market.specs.Market.{Level, total, lots_of, crosses, resting, other}
+use Rattle.market.specs.Market.{total, lots_of, crosses, resting, other}
 use Rattle.market.specs.Put.{Met, of_fills, meets}
 use Rattle.side.specs.Meeting.{Meeting, best_filled, first_queue, first_rank, first_within}
 use Rattle.side.specs.Rank.{in_range, turned, at_price, priced}

@@ -1,5 +1,5 @@
 -- An incoming order on its way through the levels of the other side, which are held by rank.
-use Rattle.std.specs.Prelude.{◌≡◌, ℕ, ◌+◌, ◌-◌, ◌*◌, ◌<◌, ◌≤◌, Bool, true, false, List, [], ◌∷◌, ◌++◌, length, take, drop, nat_le}
+use Rattle.std.specs.Prelude.{◌≡◌, ℕ, ◌+◌, ◌*◌, ◌<◌, ◌≤◌, Bool, true, false, List, [], ◌∷◌, ◌++◌, length, take, drop, nat_le}
 use Rattle.ordered.specs.Order.{by_price}
 use Rattle.ordered.specs.Row.{ascending}
 use Rattle.ordered.specs.declared.node.Node.{Node}
@@ -11,7 +11,7 @@ use Rattle.fix.specs.declared.command.Side.{Side}
 use Rattle.market.specs.declared.entry.Entry.{Entry}
 use Rattle.market.specs.declared.resting.Resting.{Resting}
 use Rattle.market.specs.Market.{Level, resting, lots_of}
-use Rattle.market.specs.Put.{Met, meets, kept, after_fills}
+use Rattle.market.specs.Put.{meets, kept, after_fills}
 use Rattle.side.specs.Rank.{priced}
 use Rattle.side.specs.Row.{seen, standing}
 

@@ -1,4 +1,3 @@
-use Rattle.std.proofs.Common.{arith}
 use Rattle.allocation.proofs.Ranges.{tradable_more, tradable_end}
 use Rattle.allocation.proofs.range.all_are_tradable.Goals as goal
 

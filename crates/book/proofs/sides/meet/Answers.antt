@@ -1,17 +1,14 @@
-use Rattle.std.proofs.Common.{◌≡◌, ℕ, zero, suc, ◌+◌, ◌-◌, ◌<◌, ◌≤◌, List, [], ◌∷◌, ◌++◌, length, take, drop, sym, refl, ap, ◌∙◌, subst, arith}
+use Rattle.std.proofs.Common.{◌≡◌, ℕ, zero, suc, ◌-◌, ◌≤◌, List, [], ◌∷◌, ◌++◌, length, take, drop, ap, ◌∙◌, arith}
 use Rattle.fix.specs.Command.{order_figures}
 use Rattle.ordered.specs.Map.{nodes_by_order}
 use Rattle.level.specs.Fits.{Fits}
 use Rattle.level.proofs.Queues.{fits_from}
-use Rattle.market.specs.declared.entry.Entry.{Entry}
 use Rattle.market.specs.Market.{Level, other, resting}
 use Rattle.market.specs.Put.{Met, meets}
 use Rattle.side.specs.Levels.{levels_of}
 use Rattle.book.specs.Place.{held, place_of, told, forgotten}
-use Rattle.book.specs.Step.{Together}
 use Rattle.book.proofs.Passed.{passed}
 use Rattle.book.proofs.Sound.{levels_tradable}
-use Rattle.book.proofs.sides.meet.Given as given
 use Rattle.book.proofs.sides.meet.Goals as goal
 
 -- the entries behind the first are those that were written

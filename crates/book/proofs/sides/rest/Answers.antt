@@ -1,14 +1,10 @@
-use Rattle.std.proofs.Common.{◌≡◌, List, sym, refl, ap, ◌∙◌, subst}
+use Rattle.std.proofs.Common.{◌≡◌, sym, ap, ◌∙◌, subst}
 use Rattle.answers.specs.Answer.{if_answered}
 use Rattle.ordered.specs.Map.{nodes_by_order}
-use Rattle.ordered.specs.declared.key.order_id.OrderId.{OrderId}
-use Rattle.ordered.specs.declared.node.Node.{Node}
 use Rattle.ordered.specs.Order.{by_order_id}
 use Rattle.ordered.specs.Row.{put}
-use Rattle.market.specs.Market.{Level}
 use Rattle.market.specs.Put.{joins}
 use Rattle.side.specs.Levels.{levels_of}
-use Rattle.book.specs.declared.place.Place.{Place}
 use Rattle.book.specs.Step.{Together}
 use Rattle.book.proofs.Joined.{joined_together}
 use Rattle.book.proofs.sides.rest.Goals as goal

@@ -1,8 +1,7 @@
-use Rattle.std.proofs.Common.{◌≡◌, ℕ, ◌<◌, Some, None, Option, sym, refl, ap, ◌∙◌, arith}
+use Rattle.std.proofs.Common.{◌≡◌, ℕ, Some, None, sym, ◌∙◌, arith}
 use Rattle.ordered.specs.declared.key.order_id.OrderId.{OrderId}
 use Rattle.market.specs.declared.resting.Resting.{Resting}
 use Rattle.side.specs.Levels.{levels_of, queue_at}
-use Rattle.book.specs.Place.{occurs}
 use Rattle.book.proofs.Apart.{levels_apart, held_queue, in_some, in_levels_at, out_levels_at}
 use Rattle.book.proofs.sides.take_out.Goals as goal
 

@@ -1,6 +1,6 @@
-use Rattle.std.proofs.Common.{◌≡◌, ℕ, ◌+◌, ◌<◌, sym, refl, ap, ◌∙◌, subst, inl, inr, add-one, arith}
+use Rattle.std.proofs.Common.{◌≡◌, ◌<◌, sym, refl, ap, ◌∙◌, subst, inl, inr, add-one, arith}
 use Rattle.std.proofs.lemmas.Bool.{cases_eq}
-use Rattle.drive.specs.Act.{Act, write, flush, Acted, Does}
+use Rattle.drive.specs.Act.{write, flush, Acted, Does}
 use Rattle.drive.specs.Medium.{medium, Written}
 use Rattle.drive.specs.Zero.{zeros, zeroing, zeroing_all}
 use Rattle.drive.proofs.Tested.{passed_case}

@@ -1,11 +1,9 @@
-use Rattle.std.proofs.Common.{◌≡◌, ℕ, Bool, true, false, cond, leb, List, [], length, sym, refl, ap, ◌∙◌}
-use Rattle.answers.specs.Answer.{Answer}
-use Rattle.fix.specs.Command.{NewOrder}
+use Rattle.std.proofs.Common.{◌≡◌, Bool, true, false, cond, leb, [], length, sym, refl, ap, ◌∙◌}
 use Rattle.fix.specs.Refusal.{tested_order, range_refusal}
 use Rattle.fix.specs.declared.command.Side.{Side}
 use Rattle.fix.specs.declared.refusal.OutOfRange.{OutOfRange}
 use Rattle.fix.specs.declared.refusal.OutOfRange.TheVariants.{Member, Number, Order, Lots, Price}
-use Rattle.exports.specs.Message.{text_of, side_of, order_of, written_length, written_into}
+use Rattle.exports.specs.Message.{text_of, order_of, written_length, written_into}
 use Rattle.exports.proofs.messages.lezdamir_write.Goals as goal
 
 no_text : (e : OutOfRange) → text_of (range_refusal e) ≡ []

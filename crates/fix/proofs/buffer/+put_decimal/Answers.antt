@@ -1,4 +1,4 @@
-use Rattle.std.proofs.Common.{◌^◌, ◌<◌, arith}
+use Rattle.std.proofs.Common.{arith}
 use Rattle.std.proofs.lemmas.Fmt.{decimal_nonempty}
 use Rattle.fix.proofs.Writes.{wrote_digit, front_room, last_room, wrote_last}
 use Rattle.fix.proofs.buffer.+put_decimal.Goals as goal

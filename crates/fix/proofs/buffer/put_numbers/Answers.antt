@@ -1,7 +1,7 @@
 use Rattle.std.proofs.Common.{[], ◌++◌, sym, refl, ap, ◌∙◌, subst, append-nil}
 use Rattle.std.proofs.lemmas.List.{at_drop_all}
 use Rattle.fix.specs.Writing.{Wrote, numbers}
-use Rattle.fix.proofs.Writes.{wrote_none, text_of, next_room, wrote_next, still_all}
+use Rattle.fix.proofs.Writes.{wrote_none, next_room, wrote_next, still_all}
 use Rattle.fix.proofs.buffer.put_numbers.Goals as goal
 
 pub loop-field-init : goal.loop-field-init

@@ -1,4 +1,4 @@
-use Rattle.std.proofs.Common.{◌≡◌, ◌+◌, ◌%◌, get_or, take, sum, sym, ap, ◌∙◌}
+use Rattle.std.proofs.Common.{◌+◌, ◌%◌, get_or, take, sum, sym, ap, ◌∙◌}
 use native.Mathlib.Nat.{mod-add-mod}
 use Rattle.std.proofs.lemmas.List.Sums.{sum_by_more}
 use Rattle.std.proofs.lemmas.List.{take_all}

@@ -1,4 +1,4 @@
-use Rattle.std.proofs.Common.{◌≡◌, ℕ, ◌+◌, ◌%◌, ◌≤◌, length, decimal, sum, sym, ap, ◌∙◌, subst, arith, rules}
+use Rattle.std.proofs.Common.{◌≡◌, ◌+◌, ◌%◌, ◌≤◌, length, decimal, sum, sym, ap, ◌∙◌, subst, arith, rules}
 use Rattle.fields.specs.Field.{written}
 use Rattle.fix.specs.Command.{figures}
 use Rattle.fix.specs.Message.{values_of, body_by, front_by}

@@ -1,8 +1,7 @@
-use Rattle.std.proofs.Common.{◌≡◌, ◌+◌, ◌<◌, ◌≤◌, [], ◌∷◌, length, sym, refl, ap, ◌∙◌, arith}
+use Rattle.std.proofs.Common.{◌+◌, ◌≤◌, [], ◌∷◌, length, sym, ap, ◌∙◌, arith}
 use Rattle.answers.specs.Answer.{answered, refused, if_answered}
 use Rattle.fix.specs.Command.{figures}
 use Rattle.fix.specs.Message.{render}
-use Rattle.fix.specs.Refusal.{room}
 use Rattle.fix.specs.Writing.{over_front}
 use Rattle.fix.proofs.Bodies.{no_room, some_room, at_front}
 use Rattle.fix.proofs.Lengths.{render_length}

@@ -1,7 +1,6 @@
-use Rattle.std.proofs.Common.{◌≡◌, true, false, Some, sym, ap, ◌∙◌, arith}
+use Rattle.std.proofs.Common.{Some, sym, ap, ◌∙◌, arith}
 use Rattle.std.proofs.lemmas.List.{get_or_default}
 use Rattle.market.specs.declared.resting.Resting.{Resting}
-use Rattle.market.specs.Market.{is_of}
 use Rattle.level.proofs.Queues.{found_in, found_out, past_in, past_out, none_in, none_out}
 use Rattle.level.proofs.queue.place_of.Goals as goal
 

@@ -1,4 +1,4 @@
-use Rattle.std.proofs.Common.{◌≡◌, ℕ, length, sym, refl, ap, ◌∙◌, arith}
+use Rattle.std.proofs.Common.{◌≡◌, length, sym, refl, ap, ◌∙◌, arith}
 use Rattle.answers.specs.Answer.{if_answered, answered}
 use Rattle.std.proofs.lemmas.List.{with_items_is}
 use Rattle.allocation.specs.Range.{tested}

@@ -1,8 +1,7 @@
-use Rattle.std.proofs.Common.{◌≡◌, ◌+◌, ◌<◌, ◌≤◌, length, get_or, drop, sym, ap, ◌∙◌, arith, rules}
+use Rattle.std.proofs.Common.{◌<◌, length, arith}
 use Rattle.fix.specs.Command.{order_figures}
-use Rattle.market.specs.Market.{total}
 use Rattle.level.proofs.Rows.{fits_at, fits_even}
-use Rattle.level.proofs.Wrote.{total_drop, total_end, drop_two, drop_later, wrote_none, wrote_some, wrote_all}
+use Rattle.level.proofs.Wrote.{total_drop, total_end, drop_two, wrote_none, wrote_some, wrote_all}
 use Rattle.market.specs.declared.resting.Resting.{Resting}
 use Rattle.level.proofs.trade.report.Goals as goal
 use Rattle.level.proofs.trade.report.Goals.{then-fill-gt0, else-fill-gt0}

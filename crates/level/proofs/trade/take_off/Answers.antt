@@ -1,5 +1,4 @@
-use Rattle.std.proofs.Common.{◌≡◌, ◌<◌, ◌++◌, length, take, vec_items, vec_len, vec_capacity, sym, ap, ◌∙◌, subst, arith, rules}
-use Rattle.std.proofs.lemmas.List.{drop_all}
+use Rattle.std.proofs.Common.{◌≡◌, ◌<◌, length, vec_items, vec_len, vec_capacity, sym, ap, ◌∙◌, arith}
 use Rattle.market.specs.Market.{lots_of}
 use Rattle.level.proofs.Rows.{length_lots, fits_length, keep_step, gone_step, filled_end}
 use Rattle.level.proofs.trade.take_off.Goals as goal

@@ -1,4 +1,4 @@
-use Rattle.std.proofs.Common.{ap, ◌∙◌}
+use Rattle.std.proofs.Common.{ap}
 use Rattle.std.specs.Option.{option_map}
 use Rattle.ordered.specs.Order.{Total}
 use Rattle.ordered.proofs.Orders.{ne_from}

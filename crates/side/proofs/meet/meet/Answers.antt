@@ -1,4 +1,4 @@
-use Rattle.std.proofs.Common.{◌≡◌, ℕ, ◌+◌, ◌-◌, ◌*◌, ◌<◌, ◌≤◌, min, Bool, true, false, ◌&&◌, ltb, List, [], ◌++◌, length, take, vec_items, vec_len, sym, refl, ap, ◌∙◌, arith, rules}
+use Rattle.std.proofs.Common.{◌≡◌, ℕ, min, ◌&&◌, ltb, List, [], ◌++◌, take, vec_items, sym, refl, ap, ◌∙◌, arith}
 use Rattle.std.proofs.lemmas.List.{append-nil}
 use Rattle.fix.specs.Command.{order_figures}
 use Rattle.level.specs.Fits.{Fits}
@@ -6,7 +6,7 @@ use Rattle.level.proofs.Queues.{fits_from, total_sum, tradable_from}
 use Rattle.market.specs.Market.{total}
 use Rattle.market.specs.Put.{Met, meets}
 use Rattle.side.specs.Meeting.{first_within}
-use Rattle.side.specs.Rank.{in_range, turned, priced}
+use Rattle.side.specs.Rank.{priced}
 use Rattle.side.specs.Row.{seen}
 use Rattle.side.proofs.First.{first_few}
 use Rattle.side.proofs.Ladder.{range_from}

@@ -1,7 +1,7 @@
-use Rattle.std.proofs.Common.{◌≡◌, ℕ, ◌+◌, ◌*◌, ◌<◌, ◌≤◌, Bool, true, false, cond, ◌&&◌, leb, List, length, vec_items, sym, refl, ap, ◌∙◌, arith}
+use Rattle.std.proofs.Common.{◌≡◌, ℕ, ◌+◌, ◌*◌, ◌≤◌, true, ◌&&◌, leb, List, length, sym, ◌∙◌, arith}
 use Rattle.std.proofs.lemmas.Bool.{cond-true, le-leb, and_from}
-use Rattle.answers.specs.Answer.{Answer, answered, refused}
-use Rattle.allocation.specs.Range.{tradable, all_tradable, in_range, tested}
+use Rattle.answers.specs.Answer.{answered, refused}
+use Rattle.allocation.specs.Range.{tradable, all_tradable}
 use Rattle.allocation.proofs.Ranges.{tested_fits}
 use Rattle.market.specs.declared.resting.Resting.{Resting}
 use Rattle.market.specs.Market.{lots_of}

@@ -1,4 +1,4 @@
-use Rattle.std.proofs.Common.{◌≡◌, ℕ, ◌+◌, ◌-◌, ◌*◌, ◌<◌, ◌≤◌, true, cond, ltb, List, ◌++◌, length, get_or, take, set, vec_items, vec_len, sym, refl, ap, ◌∙◌, subst, arith}
+use Rattle.std.proofs.Common.{◌≡◌, ◌<◌, cond, ltb, length, get_or, set, vec_items, sym, ap, ◌∙◌, subst, arith}
 use Rattle.std.specs.List.{remove}
 use Rattle.std.proofs.lemmas.List.{get_or_default, get_or-set_same}
 use Rattle.ordered.specs.declared.node.Node.{Node}
@@ -8,7 +8,6 @@ use Rattle.level.specs.Queue.{queue_of}
 use Rattle.level.specs.Trade.{Reported}
 use Rattle.level.proofs.Queues.{length_after}
 use Rattle.fix.specs.Command.{order_figures}
-use Rattle.market.specs.declared.resting.Resting.{Resting}
 use Rattle.market.specs.Market.{lots_of}
 use Rattle.market.specs.Put.{after_fills}
 use Rattle.side.specs.Meeting.{first_queue, first_rank}

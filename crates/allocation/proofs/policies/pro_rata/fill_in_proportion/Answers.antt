@@ -1,8 +1,7 @@
-use Rattle.std.proofs.Common.{◌≡◌, ◌<◌, ◌≤◌, List, map, length, sym, ap, subst, arith}
+use Rattle.std.proofs.Common.{◌<◌, ◌≤◌, length, sym, subst, arith}
 use Rattle.std.specs.List.{AllZip}
 use Rattle.std.proofs.lemmas.List.Elements.{length_all_zip}
 use Rattle.std.proofs.lemmas.Bool.{eqb-true, eqb-false}
-use Rattle.allocation.specs.ProRata.{share}
 use Rattle.allocation.proofs.Ranges.{sum_above}
 use Rattle.allocation.specs.Shares.{shares_within, shares_le, pro_rata_none, pro_rata_made}
 use Rattle.allocation.proofs.policies.pro_rata.fill_in_proportion.Goals as goal

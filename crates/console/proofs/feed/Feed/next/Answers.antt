@@ -1,9 +1,6 @@
-use Rattle.std.proofs.Common.{◌≡◌, ◌+◌, Some, sym, refl, ap, ◌∙◌, add-zero}
-use Rattle.answers.specs.Answer.{answered}
-use Rattle.fix.specs.Command.{figures}
-use Rattle.fix.specs.Refusal
+use Rattle.std.proofs.Common.{◌+◌, Some, sym, refl, ap, ◌∙◌, add-zero}
 use Rattle.std.proofs.lemmas.List.{take_rest}
-use Rattle.console.specs.Feed.{refusal, located}
+use Rattle.console.specs.Feed.{refusal}
 use Rattle.console.proofs.Feeds.{none_answer, none_place, none_taken, some_answer, some_place, some_taken, located_refusal, no_bytes, no_message}
 use Rattle.console.proofs.feed.Feed.next.Goals as goal
 

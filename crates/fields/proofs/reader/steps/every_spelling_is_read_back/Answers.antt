@@ -1,4 +1,4 @@
-use Rattle.std.proofs.Common.{◌^◌, ◌<◌, arith}
+use Rattle.std.proofs.Common.{arith}
 use Rattle.fields.proofs.Numerals.{numeral_only, numeral_back}
 use Rattle.fields.proofs.Rows.{number_lawful, step_back, step_only}
 use Rattle.fields.proofs.reader.steps.every_spelling_is_read_back.Goals as goal

@@ -1,4 +1,4 @@
-use Rattle.std.proofs.Common.{◌≡◌, ℕ, ◌+◌, ◌<◌, ◌≤◌, List, length, drop, sym, arith}
+use Rattle.std.proofs.Common.{◌≡◌, ◌+◌, ◌<◌, length, drop, arith}
 use Rattle.fields.specs.Field.{bind, of_tag, front}
 use Rattle.fields.specs.Numeral.{numeral}
 use Rattle.fields.proofs.Fronts.{rest_at, tag_at, value_at, no_end, no-equals, at_tag, tag_none, tag_unknown, tag_known}

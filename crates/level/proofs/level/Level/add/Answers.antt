@@ -1,5 +1,5 @@
-use Rattle.std.proofs.Common.{◌≡◌, ◌+◌, ◌*◌, ◌^◌, ◌<◌, ◌≤◌, true, [], ◌∷◌, ◌++◌, length, vec_items, vec_len, vec_capacity, sym, ap, ◌∙◌, arith}
-use Rattle.allocation.specs.Range.{tradable, all_tradable}
+use Rattle.std.proofs.Common.{vec_items, ap, ◌∙◌, arith}
+use Rattle.allocation.specs.Range.{all_tradable}
 use Rattle.market.specs.Market.{lots_of, total}
 use Rattle.level.proofs.Queues.{total_joined, tradable_joined, tradable_from, total_most}
 use Rattle.level.proofs.level.Level.add.Goals as goal

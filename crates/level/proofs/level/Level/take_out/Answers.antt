@@ -1,7 +1,5 @@
-use Rattle.std.proofs.Common.{◌≡◌, ℕ, ◌+◌, ◌-◌, ◌<◌, ◌≤◌, true, List, length, get_or, Some, None, vec_items, vec_len, vec_capacity, sym, refl, ap, ◌∙◌, subst, arith, rules}
-use Rattle.std.specs.List.{remove}
+use Rattle.std.proofs.Common.{vec_items, sym, ap, ◌∙◌, arith}
 use Rattle.allocation.specs.Range.{all_tradable}
-use Rattle.market.specs.declared.resting.Resting.{Resting}
 use Rattle.market.specs.Market.{lots_of, total, in_queue}
 use Rattle.market.specs.Put.{out_of_queue}
 use Rattle.level.proofs.Queues.{total_out, tradable_out, taken_is, left_is}

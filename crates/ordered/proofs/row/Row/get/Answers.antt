@@ -1,8 +1,8 @@
-use Rattle.std.proofs.Common.{◌≡◌, Some, vec_items, sym, ap, ◌∙◌, subst}
+use Rattle.std.proofs.Common.{Some, vec_items, sym, ap, ◌∙◌, subst}
 use Rattle.std.specs.Option.{option_map}
 use Rattle.ordered.specs.Order.{Total}
-use Rattle.ordered.specs.Place.{At, Gap}
-use Rattle.ordered.proofs.Found.{node_at, node_gap}
+use Rattle.ordered.specs.Place.{At}
+use Rattle.ordered.proofs.Found.{node_at}
 use Rattle.ordered.proofs.row.Row.get.Given as given
 use Rattle.ordered.proofs.row.Row.get.Goals as goal
 

@@ -1,5 +1,5 @@
-use Rattle.std.proofs.Common.{◌≡◌, true, List, [], length, is_some, vec_items, vec_len, sym, refl, ap, ◌∙◌, subst, rules}
-use Rattle.answers.specs.Answer.{Answer, refused, if_answered}
+use Rattle.std.proofs.Common.{◌≡◌, true, [], length, is_some, vec_items, vec_len, sym, refl, ap, ◌∙◌, subst, rules}
+use Rattle.answers.specs.Answer.{refused, if_answered}
 use Rattle.std.specs.List.{insert}
 use Rattle.ordered.specs.Order.{Total}
 use Rattle.ordered.specs.Place.{At, Gap}

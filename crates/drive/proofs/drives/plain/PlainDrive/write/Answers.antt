@@ -1,4 +1,4 @@
-use Rattle.std.proofs.Common.{◌≡◌, ◌<◌, length, sym, ap, ◌∙◌, arith}
+use Rattle.std.proofs.Common.{◌<◌, length, sym, ap, ◌∙◌, arith}
 use Rattle.drive.specs.Block.{whole, put}
 use Rattle.drive.specs.Refusal.{tested}
 use Rattle.drive.proofs.Tested.{passed, if_passed}
