@@ -1,6 +1,6 @@
 -- What the test of the range tells.
 use Rattle.std.proofs.Common.{◌≡◌, ℕ, ◌+◌, ◌<◌, ◌≤◌, Bool, true, false, cond, ◌&&◌, eqb, leb, List, [], ◌∷◌, length, get_or, drop, Decides, sum, sym, refl, ap, ◌∙◌, ⊎_elim, arith}
-use Rattle.std.specs.List.{AllByRecursion as All}
+use Rattle.std.specs.List.{AllByRecursion}
 use Rattle.std.proofs.lemmas.List.{at_drop_more, at_drop_all}
 use Rattle.std.proofs.lemmas.Bool.{leb-true, le-leb, eqb-true, eq-eqb, ne_eqb, cases_Bool}
 use Rattle.std.proofs.lemmas.Bool.Decides.{Decides-and, Decides-like}
@@ -36,10 +36,10 @@ both false c a e = absurd (apart e)
 tradable_decides : (n : ℕ) → Decides (tradable n) (Tradable n)
 tradable_decides n = Decides-and (leb 1 n) (leb n most_lots) (leb-true 1 n, le-leb 1 n) (leb-true n most_lots, le-leb n most_lots)
 
-all_decides : (ls : List ℕ) → Decides (all_tradable ls) (All Tradable ls)
+all_decides : (ls : List ℕ) → Decides (all_tradable ls) (AllByRecursion Tradable ls)
 all_decides ls = Decides-by_and tradable Tradable all_tradable tradable_decides refl (λ _ _. refl) ls
 
-in_range_parts : (q : ℕ) (ls : List ℕ) → Decides (in_range q ls) ((length ls ≤ most_orders) × (Tradable q × All Tradable ls))
+in_range_parts : (q : ℕ) (ls : List ℕ) → Decides (in_range q ls) ((length ls ≤ most_orders) × (Tradable q × AllByRecursion Tradable ls))
 in_range_parts q ls = Decides-and (leb (length ls) most_orders) (tradable q && all_tradable ls) (leb-true (length ls) 1024, le-leb (length ls) most_orders) (Decides-and (tradable q) (all_tradable ls) (tradable_decides q) (all_decides ls))
 
 pub in_range_decides : (q : ℕ) (ls : List ℕ) → Decides (in_range q ls) (InRange q ls)
@@ -59,7 +59,7 @@ tests q ls room = record {
 }
 
 -- the lots of at least one order come to something
-pub sum_above : (ls : List ℕ) → All Tradable ls → 0 < length ls → 0 < sum ls
+pub sum_above : (ls : List ℕ) → AllByRecursion Tradable ls → 0 < length ls → 0 < sum ls
 sum_above [] a h = absurd (omega arith)
 sum_above (l ∷ ls) a h = omega (arith, a.0.0, sum_cons l ls)
 

@@ -1,6 +1,6 @@
 -- What a policy takes: a quantity, the lots of the orders at a level, and room for as many fills.
 use Rattle.std.specs.Prelude.{◌≡◌, ℕ, ◌≤◌, Bool, true, cond, ◌&&◌, List, [], ◌∷◌, length, ◌==◌, ◌≢◌, nat_le}
-use Rattle.std.specs.List.{AllByRecursion as All}
+use Rattle.std.specs.List.{AllByRecursion}
 use Rattle.answers.specs.Answer.{Answer, answered, refused}
 
 -- the most lots of one order: a quantity has at most six digits
@@ -33,7 +33,7 @@ Tradable lots = (1 ≤ lots) × (lots ≤ most_lots)
 pub record InRange (quantity : ℕ) (lots : List ℕ) : Type 0 where
   pub few : length lots ≤ most_orders
   pub incoming : Tradable quantity
-  pub resting : All Tradable lots
+  pub resting : AllByRecursion Tradable lots
 
 pub record Tests (quantity : ℕ) (lots : List ℕ) (room : ℕ) : Type 0 where
   pub lengths_differ : (length lots ≢ room) → tested quantity lots room ≡ refused 51 []

@@ -2,9 +2,9 @@
 #![tactic(auto)]
 
 // the splits of the policies
-mod allocation;
+mod splits;
 // a day of commands put through a book
-mod book;
+mod days;
 // checksums and sealed blocks
 mod blocks;
 // blocks read from drives and written to them
@@ -12,6 +12,6 @@ mod drives;
 // messages read and written
 mod messages;
 // whole workloads on the ordered maps
-mod ordered;
+mod maps;
 #[cfg(test)]
 mod tests;

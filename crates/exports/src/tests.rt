@@ -1,5 +1,5 @@
 // The exported functions on the worked examples.
-use crate::allocation::lezdamir_pro_rata;
+use crate::splits::lezdamir_pro_rata;
 use crate::blocks::lezdamir_crc32c;
 use crate::messages::{lezdamir_read, lezdamir_write};
 

@@ -1,6 +1,6 @@
 -- Trades keep to limits, and the best price comes first.
 use Rattle.std.proofs.Common.{◌≡◌, ℕ, zero, suc, ◌-◌, ◌⊎◌, List, [], ◌∷◌, ◌++◌, sym, refl, ap, ◌∙◌, subst, inl, inr, arith}
-use Rattle.std.specs.List.{AllByRecursion as All}
+use Rattle.std.specs.List.{AllByRecursion}
 use Rattle.fix.specs.declared.command.Side.{Side}
 use Rattle.fix.specs.declared.command.Side.TheVariants.{Buy, Sell}
 use Rattle.fix.specs.Command.{NewOrder, Command, new, cancel}
@@ -26,13 +26,13 @@ module _ (o : NewOrder) (P : Entry → Type 0) where
   -- the trades of a queue, and those that follow
   each_fills : (price : ℕ) (Q : Resting → Type 0)
       → ((r : Resting) (f : ℕ) → Q r → P (entry o.number r.member r.order (Filled (other o.side) (suc f) price (r.lots - suc f))))
-      → (left : ℕ) (fs : List ℕ) (rs : List Resting) (es : List Entry) → All Q rs → EachTrade P es → EachTrade P (of_fills o price left fs rs ++ es)
+      → (left : ℕ) (fs : List ℕ) (rs : List Resting) (es : List Entry) → AllByRecursion Q rs → EachTrade P es → EachTrade P (of_fills o price left fs rs ++ es)
   each_fills price Q trade left [] rs es a t = t
   each_fills price Q trade left (f ∷ fs) [] es a t = t
   each_fills price Q trade left (zero ∷ fs) (r ∷ rs) es a t = each_fills price Q trade (left - 0) fs rs es a.1 t
   each_fills price Q trade left (suc f ∷ fs) (r ∷ rs) es a t = (trade r f a.0, each_fills price Q trade (left - suc f) fs rs es a.1 t)
 
-any_order : (rs : List Resting) → All (λ _. Unit {0}) rs
+any_order : (rs : List Resting) → AllByRecursion (λ _. Unit {0}) rs
 any_order [] = tt
 any_order (r ∷ rs) = (tt, any_order rs)
 

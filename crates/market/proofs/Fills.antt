@@ -1,6 +1,6 @@
 -- What fills do to one queue.
 use Rattle.std.proofs.Common.{◌≡◌, ℕ, ◌+◌, ◌-◌, ◌<◌, ◌≤◌, min, Bool, true, false, cond, ltb, ◌⊎◌, List, [], ◌∷◌, length, refl, ◌∙◌, inl, inr, arith}
-use Rattle.std.specs.List.{AllZip, AllByRecursion as All}
+use Rattle.std.specs.List.{AllZip, AllByRecursion}
 use Rattle.std.proofs.lemmas.Bool.Decides.{nat_tests}
 use Rattle.std.proofs.lemmas.Bool.{ltb-true, le-ltb, cases_lt, cond-false, cond_both}
 use Rattle.market.specs.declared.resting.Resting.{Resting}
@@ -51,13 +51,13 @@ times_after member order [] (r ∷ rs) w = absurd w
 times_after member order (f ∷ fs) [] w = absurd w
 times_after member order (f ∷ fs) (r ∷ rs) w = let h = times_after member order fs rs w.1 in grind (arith, nat_tests)
 
-pub has_lots_after : (fs : List ℕ) (rs : List Resting) → AllZip ◌≤◌ fs (lots_of rs) → All HasLots (after_fills fs rs)
+pub has_lots_after : (fs : List ℕ) (rs : List Resting) → AllZip ◌≤◌ fs (lots_of rs) → AllByRecursion HasLots (after_fills fs rs)
 has_lots_after [] [] w = tt
 has_lots_after [] (r ∷ rs) w = absurd w
 has_lots_after (f ∷ fs) [] w = absurd w
 has_lots_after (f ∷ fs) (r ∷ rs) w =
     let h = has_lots_after fs rs w.1 in
-    cond_both (ltb f r.lots) _ _ (All HasLots) (λ e. (let l = ltb-true f r.lots e in omega arith, h)) (λ e. h)
+    cond_both (ltb f r.lots) _ _ (AllByRecursion HasLots) (λ e. (let l = ltb-true f r.lots e in omega arith, h)) (λ e. h)
 
 -- the fills of a queue under a policy, where `left` lots are left
 pub record Fills (split : ℕ → List ℕ → List ℕ) (left : ℕ) (rs : List Resting) (fs : List ℕ) : Type 0 where

@@ -1,6 +1,6 @@
 -- An order joins the levels of its side.
 use Rattle.std.proofs.Common.{◌≡◌, ℕ, zero, suc, ◌+◌, ◌<◌, ◌≤◌, Bool, true, cond, ◌⊎◌, List, [], ◌∷◌, ◌++◌, length, refl, ap, inl, inr, arith}
-use Rattle.std.specs.List.{AllByRecursion as All}
+use Rattle.std.specs.List.{AllByRecursion}
 use Rattle.std.proofs.lemmas.Bool.{cond_both}
 use Rattle.std.proofs.ByRecursion.{All-push}
 use Rattle.fix.specs.declared.command.Side.{Side}
@@ -51,10 +51,10 @@ module _ (side : Side) (price : ℕ) (r : Resting) where
       ((t, prices_weaker (Better side l.price) (Better side price) (λ q. better_trans side price l.price q t) ls s.0), s))
       (λ _. s)
 
-  pub occupied_joins : 0 < r.lots → (ls : List Level) → All Occupied ls → All Occupied (joins side price r ls)
+  pub occupied_joins : 0 < r.lots → (ls : List Level) → AllByRecursion Occupied ls → AllByRecursion Occupied (joins side price r ls)
   occupied_joins h [] w = ((omega arith, (h, tt)), tt)
   occupied_joins h (l ∷ ls) w =
-      joins_cases (All Occupied) l ls (λ _. (w.0, occupied_joins h ls w.1)) (λ _. ((omega arith, (h, tt)), w))
+      joins_cases (AllByRecursion Occupied) l ls (λ _. (w.0, occupied_joins h ls w.1)) (λ _. ((omega arith, (h, tt)), w))
       (λ _. ((omega (arith, length_end l.queue r), All-push HasLots l.queue r w.0.1 h), w.1))
 
   pub lots_joins : (who : ℕ → ℕ → Bool) (ls : List Level) → lots_at who (joins side price r ls) ≡ cond (who r.member r.order) r.lots 0 + lots_at who ls
@@ -87,7 +87,7 @@ module _ (o : NewOrder) where
   sorted_rests zero ls s = s
   sorted_rests (suc left) ls s = sorted_joins o.side o.price (remainder (suc left)) ls s
 
-  pub occupied_rests : (left : ℕ) (ls : List Level) → All Occupied ls → All Occupied (rests o left ls)
+  pub occupied_rests : (left : ℕ) (ls : List Level) → AllByRecursion Occupied ls → AllByRecursion Occupied (rests o left ls)
   occupied_rests zero ls w = w
   occupied_rests (suc left) ls w = occupied_joins o.side o.price (remainder (suc left)) (omega arith) ls w
 

@@ -1,6 +1,6 @@
 -- An order leaves the levels of its side.
 use Rattle.std.proofs.Common.{◌≡◌, ℕ, ◌+◌, ◌<◌, ◌≤◌, Bool, true, false, cond, List, [], ◌∷◌, length, is_some, Some, None, Option, sym, refl, ap, ◌∙◌, arith}
-use Rattle.std.specs.List.{AllByRecursion as All}
+use Rattle.std.specs.List.{AllByRecursion}
 use Rattle.std.proofs.lemmas.Bool.Decides.{nat_tests}
 use Rattle.std.proofs.lemmas.Bool.{true≢false, or_parts, cond_both}
 use Rattle.fix.specs.declared.command.Side.{Side}
@@ -39,9 +39,9 @@ module _ (m o : ℕ) where
   length_without [] = omega arith
   length_without (r ∷ rs) = let h = length_without rs in grind (arith, nat_tests)
 
-  pub all_without : (P : Resting → Type 0) (rs : List Resting) → All P rs → All P (out_of_queue m o rs)
+  pub all_without : (P : Resting → Type 0) (rs : List Resting) → AllByRecursion P rs → AllByRecursion P (out_of_queue m o rs)
   all_without P [] p = tt
-  all_without P (r ∷ rs) p = cond_both (is_of m o r) _ _ (All P) (λ _. p.1) (λ _. (p.0, all_without P rs p.1))
+  all_without P (r ∷ rs) p = cond_both (is_of m o r) _ _ (AllByRecursion P) (λ _. p.1) (λ _. (p.0, all_without P rs p.1))
 
   gone_without : (rs : List Resting) → times_in m o rs ≤ 1 → times_in m o (out_of_queue m o rs) ≡ 0
   gone_without [] t = refl
@@ -57,7 +57,7 @@ module _ (m o : ℕ) where
   sorted_out side (l ∷ ls) s =
       sorted_kept side l.price (out_of_queue m o l.queue) (out_of_levels m o ls) (prices_out (Better side l.price) ls s.0) (sorted_out side ls s.1)
 
-  pub occupied_out : (ls : List Level) → All Occupied ls → All Occupied (out_of_levels m o ls)
+  pub occupied_out : (ls : List Level) → AllByRecursion Occupied ls → AllByRecursion Occupied (out_of_levels m o ls)
   occupied_out [] w = tt
   occupied_out (l ∷ ls) w =
       all_kept Occupied l.price (out_of_queue m o l.queue) (out_of_levels m o ls) (λ h. (h, all_without HasLots l.queue w.0.1)) (occupied_out ls w.1)

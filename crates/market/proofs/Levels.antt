@@ -1,6 +1,6 @@
 -- Prices, and a level that is kept where something rests at it.
 use Rattle.std.proofs.Common.{◌≡◌, ℕ, ◌+◌, ◌<◌, Bool, true, false, List, [], ◌∷◌, length, refl, arith}
-use Rattle.std.specs.List.{AllByRecursion as All}
+use Rattle.std.specs.List.{AllByRecursion}
 use Rattle.std.proofs.lemmas.Bool.Decides.{nat_tests}
 use Rattle.std.proofs.lemmas.Bool.{ltb-true, leb-true, leb-false, lt-ltb, le-ltb, lt-leb}
 use Rattle.std.proofs.ByRecursion.{All-weaker}
@@ -15,7 +15,7 @@ use Rattle.market.specs.Shape.{Sorted}
 
 -- what holds of every level's price
 abbrev pub Prices : (ℕ → Type 0) → List Level → Type 0
-Prices P ls = All (λ l. P l.price) ls
+Prices P ls = AllByRecursion (λ l. P l.price) ls
 
 -- an order of this side and limit does not trade at a price
 abbrev pub Clear : Side → ℕ → ℕ → Type 0
@@ -77,7 +77,7 @@ clear_all side limit l ls s c = (c, prices_weaker (Better (other side) l.price) 
 
 -- a level that is kept if something rests at it
 pub all_kept : (P : Level → Type 0) (price : ℕ) (rs : List Resting) (ls : List Level)
-    → (0 < length rs → P (record { price = price; queue = rs })) → All P ls → All P (kept price rs ls)
+    → (0 < length rs → P (record { price = price; queue = rs })) → AllByRecursion P ls → AllByRecursion P (kept price rs ls)
 all_kept P price [] ls p e = e
 all_kept P price (r ∷ rs) ls p e = (p (omega arith), e)
 

@@ -1,6 +1,6 @@
 -- What an incoming order does to the levels that it meets.
 use Rattle.std.proofs.Common.{◌≡◌, ℕ, zero, suc, ◌-◌, ◌<◌, ◌≤◌, true, false, ◌⊎◌, List, [], ◌∷◌, ◌++◌, length, sym, refl, ◌∙◌, inl, inr, arith}
-use Rattle.std.specs.List.{AllByRecursion as All}
+use Rattle.std.specs.List.{AllByRecursion}
 use Rattle.std.proofs.lemmas.Bool.{true≢false, cond_both}
 use Rattle.fix.specs.declared.command.Side.{Side}
 use Rattle.fix.specs.Command.{NewOrder}
@@ -52,8 +52,8 @@ module _ (split : ℕ → List ℕ → List ℕ) (means : Splits split) (o : New
       (λ left l ls fs e f h s. sorted_kept side l.price (after_fills fs l.queue) (meets split o (left - total fs) ls).levels
       (prices_meets (Better side l.price) (left - total fs) ls s.0) (h s.1))
 
-  pub occupied_meets : (left : ℕ) (ls : List Level) → All Occupied ls → All Occupied (meets split o left ls).levels
-  occupied_meets = meets_all (λ left ls met. All Occupied ls → All Occupied met.levels) (λ left w. tt) (λ ls w. w) (λ left l ls e w. w)
+  pub occupied_meets : (left : ℕ) (ls : List Level) → AllByRecursion Occupied ls → AllByRecursion Occupied (meets split o left ls).levels
+  occupied_meets = meets_all (λ left ls met. AllByRecursion Occupied ls → AllByRecursion Occupied met.levels) (λ left w. tt) (λ ls w. w) (λ left l ls e w. w)
       (λ left l ls fs e f h w. all_kept Occupied l.price (after_fills fs l.queue) (meets split o (left - total fs) ls).levels
       (λ some. (some, has_lots_after fs l.queue f.within)) (h w.1))
 
@@ -77,9 +77,9 @@ module _ (split : ℕ → List ℕ → List ℕ) (means : Splits split) (o : New
       (λ left l ls fs e f h. omega (arith, resting_kept l.price (after_fills fs l.queue) (meets split o (left - total fs) ls).levels, length_after fs l.queue f.within))
 
   -- where something is left of an order that crosses, a place is free
-  pub place_meets : (left : ℕ) (ls : List Level) → All Occupied ls → best_crosses o.side o.price ls ≡ true
+  pub place_meets : (left : ℕ) (ls : List Level) → AllByRecursion Occupied ls → best_crosses o.side o.price ls ≡ true
       → ((meets split o left ls).left ≡ 0) ⊎ (resting (meets split o left ls).levels < resting ls)
-  place_meets = meets_all (λ left ls met. All Occupied ls → best_crosses o.side o.price ls ≡ true → (met.left ≡ 0) ⊎ (resting met.levels < resting ls))
+  place_meets = meets_all (λ left ls met. AllByRecursion Occupied ls → best_crosses o.side o.price ls ≡ true → (met.left ≡ 0) ⊎ (resting met.levels < resting ls))
       (λ left w b. absurd (true≢false (sym b))) (λ ls w b. inl refl) (λ left l ls e w b. absurd (true≢false (sym b ∙ e)))
       (λ left l ls fs e f h w b. go left l ls fs w.0.0 (done_or_gone split left l.queue fs f))
     where

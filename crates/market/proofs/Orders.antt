@@ -1,6 +1,6 @@
 -- What holds of each resting order, by its price, and is kept by every command.
 use Rattle.std.proofs.Common.{ℕ, zero, suc, ◌-◌, ◌≤◌, ltb, List, [], ◌∷◌, subst, arith}
-use Rattle.std.specs.List.{AllByRecursion as All}
+use Rattle.std.specs.List.{AllByRecursion}
 use Rattle.std.proofs.lemmas.Bool.{cond_both}
 use Rattle.std.proofs.ByRecursion.{All-push}
 use Rattle.fix.specs.declared.command.Side.{Side}
@@ -19,19 +19,19 @@ use Rattle.market.proofs.Cases.{order_cases, cancel_cases}
 
 -- each order of levels
 abbrev pub Orders : (ℕ → Resting → Type 0) → List Level → Type 0
-Orders Q ls = All (λ l. All (Q l.price) l.queue) ls
+Orders Q ls = AllByRecursion (λ l. AllByRecursion (Q l.price) l.queue) ls
 
 -- a fact that an order keeps as it is filled
 module _ (Q : ℕ → Resting → Type 0) (lessens : (price fill : ℕ) (r : Resting) → Q price r → Q price (less r fill)) where
-  orders_after : (price : ℕ) (fs : List ℕ) (rs : List Resting) → All (Q price) rs → All (Q price) (after_fills fs rs)
+  orders_after : (price : ℕ) (fs : List ℕ) (rs : List Resting) → AllByRecursion (Q price) rs → AllByRecursion (Q price) (after_fills fs rs)
   orders_after price [] rs a = a
   orders_after price (f ∷ fs) [] a = tt
   orders_after price (f ∷ fs) (r ∷ rs) a =
-      cond_both (ltb f r.lots) _ _ (All (Q price)) (λ _. (lessens price f r a.0, orders_after price fs rs a.1)) (λ _. orders_after price fs rs a.1)
+      cond_both (ltb f r.lots) _ _ (AllByRecursion (Q price)) (λ _. (lessens price f r a.0, orders_after price fs rs a.1)) (λ _. orders_after price fs rs a.1)
 
   orders_meets : (split : ℕ → List ℕ → List ℕ) → Splits split → (o : NewOrder) (left : ℕ) (ls : List Level) → Orders Q ls → Orders Q (meets split o left ls).levels
   orders_meets split means o = meets_all split means o (λ left ls met. Orders Q ls → Orders Q met.levels) (λ left a. tt) (λ ls a. a) (λ left l ls e a. a)
-      (λ left l ls fs e f h a. all_kept (λ l. All (Q l.price) l.queue) l.price (after_fills fs l.queue) (meets split o (left - total fs) ls).levels
+      (λ left l ls fs e f h a. all_kept (λ l. AllByRecursion (Q l.price) l.queue) l.price (after_fills fs l.queue) (meets split o (left - total fs) ls).levels
       (λ _. orders_after l.price fs l.queue a.0) (h a.1))
 
   orders_joins : (side : Side) (price : ℕ) (r : Resting) (ls : List Level) → Q price r → Orders Q ls → Orders Q (joins side price r ls)
@@ -47,7 +47,7 @@ module _ (Q : ℕ → Resting → Type 0) (lessens : (price fill : ℕ) (r : Res
   orders_out : (m o : ℕ) (ls : List Level) → Orders Q ls → Orders Q (out_of_levels m o ls)
   orders_out m o [] a = tt
   orders_out m o (l ∷ ls) a =
-      all_kept (λ l. All (Q l.price) l.queue) l.price (out_of_queue m o l.queue) (out_of_levels m o ls)
+      all_kept (λ l. AllByRecursion (Q l.price) l.queue) l.price (out_of_queue m o l.queue) (out_of_levels m o ls)
       (λ _. all_without m o (Q l.price) l.queue a.0) (orders_out m o ls a.1)
 
 module _ (Q : Side → ℕ → Resting → Type 0) (lessens : (side : Side) (price fill : ℕ) (r : Resting) → Q side price r → Q side price (less r fill)) where

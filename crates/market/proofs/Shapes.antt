@@ -1,6 +1,6 @@
 -- Every command keeps a market's shape.
 use Rattle.std.proofs.Common.{◌≡◌, ℕ, suc, ◌+◌, ◌<◌, ◌≤◌, true, false, cond, leb, ◌⊎◌, List, [], ◌∷◌, subst₂, inl, inr, arith}
-use Rattle.std.specs.List.{AllByRecursion as All}
+use Rattle.std.specs.List.{AllByRecursion}
 use Rattle.std.proofs.lemmas.Bool.{leb-false, eqb-true, and_parts, cond_both}
 use Rattle.fix.specs.declared.command.Side.{Side}
 use Rattle.fix.specs.declared.command.Side.TheVariants.{Buy, Sell}
@@ -90,7 +90,7 @@ module _ (split : ℕ → List ℕ → List ℕ) (means : Splits split) where
       sorted = both_levels Sorted o.side own met.levels m
           (sorted_rests o met.left (levels o.side m) (g.sorted o.side))
           (sorted_meets split means o (other o.side) o.lots there (g.sorted (other o.side)));
-      occupied = both_levels (λ s. All Occupied) o.side own met.levels m
+      occupied = both_levels (λ s. AllByRecursion Occupied) o.side own met.levels m
           (occupied_rests o met.left (levels o.side m) (g.occupied o.side))
           (occupied_meets split means o o.lots there (g.occupied (other o.side)));
       uncrossed = best_from_facing _ _ (both_facing o.side own met.levels m facing_trades);
@@ -106,7 +106,7 @@ module _ (c : Cancel) (m : Market) (g : Shape m) (side : Side) (r : Resting) whe
   shape_cancelled : Shape (cancelled c side r m).market
   shape_cancelled = record {
     sorted = one_levels Sorted side without m (sorted_out c.member c.order side (levels side m) (g.sorted side)) (g.sorted (other side));
-    occupied = one_levels (λ s. All Occupied) side without m (occupied_out c.member c.order (levels side m) (g.occupied side)) (g.occupied (other side));
+    occupied = one_levels (λ s. AllByRecursion Occupied) side without m (occupied_out c.member c.order (levels side m) (g.occupied side)) (g.occupied (other side));
     uncrossed = best_from_facing _ _
         (one_facing side without m (prices_out c.member c.order (λ limit. Prices (Clear side limit) (levels (other side) m)) (levels side m) (facing_of side m (facing m g))));
     few = omega (arith, one_sum resting side without m, sum_of resting side m, resting_out c.member c.order (levels side m), g.few);

@@ -1,6 +1,6 @@
 -- The prices of trades.
 use Rattle.std.specs.Prelude.{◌≡◌, ℕ, ◌⊎◌, List, [], ◌∷◌}
-use Rattle.std.specs.List.{AllByRecursion as All}
+use Rattle.std.specs.List.{AllByRecursion}
 use Rattle.fix.specs.declared.command.Side.{Side}
 use Rattle.fix.specs.Command.{NewOrder, Command, new, cancel}
 use Rattle.market.specs.declared.entry.Event.{Event}
@@ -35,7 +35,7 @@ pub record FairTrade (cs : List Command) (o : NewOrder) (after : Market) (theirs
   -- the resting order trades at the limit that it was entered with
   pub own_limit : Placed cs (other o.side) theirs.member theirs.order (price_of theirs.event)
   -- no order at a better price is left
-  pub best_first : All (λ l. Better (other o.side) l.price (price_of theirs.event) → ⊥) (levels (other o.side) after)
+  pub best_first : AllByRecursion (λ l. Better (other o.side) l.price (price_of theirs.event) → ⊥) (levels (other o.side) after)
 
 -- the trades behind the answer, by the first entry of each
 abbrev pub EachTrade : (Entry → Type 0) → List Entry → Type 0

@@ -1,7 +1,7 @@
 -- When a command is turned down, and what it does otherwise. Of the cases of an order, as of those of a cancel, exactly one holds, and their outcomes
 -- differ: so each outcome comes in its case only.
 use Rattle.std.specs.Prelude.{◌≡◌, ℕ, ◌<◌, not, List, [], ◌∷◌, filter}
-use Rattle.std.specs.List.{AllByRecursion as All}
+use Rattle.std.specs.List.{AllByRecursion}
 use Rattle.fix.specs.declared.command.Side.{Side}
 use Rattle.fix.specs.Command.{NewOrder, Cancel, Command, new, cancel}
 use Rattle.market.specs.declared.entry.Reason.{Reason}
@@ -18,7 +18,7 @@ Rests member order m = 0 < times member order m
 
 -- no level of the other side has a price that the order allows
 abbrev pub NoneCrosses : NewOrder → Market → Type 0
-NoneCrosses o m = All (λ l. Allows o.side o.price l.price → ⊥) (levels (other o.side) m)
+NoneCrosses o m = AllByRecursion (λ l. Allows o.side o.price l.price → ⊥) (levels (other o.side) m)
 
 -- the market is as it was, and one entry has the reason
 abbrev pub TurnedDown : NewOrder → Reason → Market → Outcome → Type 0

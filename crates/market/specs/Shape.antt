@@ -1,6 +1,6 @@
 -- The shape of every market that commands make.
 use Rattle.std.specs.Prelude.{ℕ, ◌<◌, ◌≤◌, List, [], ◌∷◌, length, Some, None, Option}
-use Rattle.std.specs.List.{AllByRecursion as All}
+use Rattle.std.specs.List.{AllByRecursion}
 use Rattle.fix.specs.declared.command.Side.{Side}
 use Rattle.fix.specs.Command.{Command, new, cancel}
 use Rattle.market.specs.declared.resting.Resting.{Resting}
@@ -12,14 +12,14 @@ use Rattle.market.specs.Prices.{Better}
 -- best first, no price twice
 abbrev pub Sorted : Side → List Level → Type 0
 Sorted side [] = Unit {0}
-Sorted side (l ∷ ls) = All (λ worse. Better side l.price worse.price) ls × Sorted side ls
+Sorted side (l ∷ ls) = AllByRecursion (λ worse. Better side l.price worse.price) ls × Sorted side ls
 
 abbrev pub HasLots : Resting → Type 0
 HasLots r = 0 < r.lots
 
 -- something rests at it, and each order of it has lots
 abbrev pub Occupied : Level → Type 0
-Occupied l = (0 < length l.queue) × All HasLots l.queue
+Occupied l = (0 < length l.queue) × AllByRecursion HasLots l.queue
 
 -- the best buy is below the best sell, where both exist
 abbrev pub Apart : Option ℕ → Option ℕ → Type 0
@@ -29,7 +29,7 @@ Apart None sell = Unit {0}
 
 pub record Shape (m : Market) : Type 0 where
   pub sorted : (side : Side) → Sorted side (levels side m)
-  pub occupied : (side : Side) → All Occupied (levels side m)
+  pub occupied : (side : Side) → AllByRecursion Occupied (levels side m)
   pub uncrossed : Apart (best m.buys) (best m.sells)
   pub few : all_resting m ≤ 1024
   -- a member's order number rests at most once, over both sides
@@ -45,7 +45,7 @@ AlwaysShaped split = (cs : List Command) → Shape (after split cs empty)
 
 -- no order of levels has more than so many lots
 abbrev pub AtMost : ℕ → List Level → Type 0
-AtMost most ls = All (λ l. All (λ r. r.lots ≤ most) l.queue) ls
+AtMost most ls = AllByRecursion (λ l. AllByRecursion (λ r. r.lots ≤ most) l.queue) ls
 
 abbrev pub lots_asked : Command → ℕ
 lots_asked (new o) = o.lots
