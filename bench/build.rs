@@ -1,14 +1,14 @@
-//! Links the proved library, which `rt staticlib exports` makes, and the C library of the kit beside it.
+//! Links the proved library, which `rt lib` makes in crates/exports, and the C libraries of the kit beside it.
 use std::env;
 use std::path::PathBuf;
 
 fn main() {
     let root = PathBuf::from(env::var("CARGO_MANIFEST_DIR").expect("set by cargo")).join("..");
-    let library = root.join("target/staticlib/libexports.a");
+    let library = root.join("crates/exports/out/libexports.a");
     let kit = PathBuf::from(env::var("RATTLE_KIT").unwrap_or("/opt/rattle".into()));
     assert!(
         library.exists(),
-        "run `rt staticlib exports` first: {} is missing",
+        "run `rt lib` in crates/exports first: {} is missing",
         library.display()
     );
     println!("cargo:rustc-link-arg={}", library.display());

@@ -1,7 +1,7 @@
 // The exported functions on the worked examples.
-use crate::splits::lezdamir_pro_rata;
 use crate::blocks::lezdamir_crc32c;
 use crate::messages::{lezdamir_read, lezdamir_write};
+use crate::splits::lezdamir_pro_rata;
 
 #[test]
 fn worked_examples(rt: HostRuntime) {
