@@ -1,4 +1,4 @@
-//! Links the proved library, which `rt lib` makes in crates/exports, and the C libraries of the kit beside it.
+//! Links the proved library, which `rt lib` makes in crates/exports, and the memory functions of the kit beside it.
 use std::env;
 use std::path::PathBuf;
 
@@ -14,7 +14,7 @@ fn main() {
     println!("cargo:rustc-link-arg={}", library.display());
     println!(
         "cargo:rustc-link-arg={}",
-        kit.join("lib/librattle_c.a").display()
+        kit.join("c/liblibc_c.a").display()
     );
     println!("cargo:rerun-if-changed={}", library.display());
     println!("cargo:rerun-if-env-changed=RATTLE_KIT");
