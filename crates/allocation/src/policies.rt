@@ -1,8 +1,9 @@
 ghost use Rattle.std.specs.Prelude.{◌≡◌, ℕ, ◌≤◌, min, List, length, sum, slice_index};
 ghost use Rattle.answers.specs.Answer.{if_answered};
 ghost use Rattle.allocation.specs.Refusal.{answer};
-ghost use Rattle.allocation.specs.Range.{tested};
+ghost use Rattle.allocation.specs.Range.{tested, InRange};
 
+use crate::range::test;
 use crate::refusal::AllocationRefusal;
 
 /// first in, first out
@@ -15,24 +16,31 @@ pub trait Policy {
     /// The policy's one letter.
     const LETTER: u8;
 
-    /// The same letter as contracts name it.
-    ghost letter: { ℕ };
+    ghost LETTER: { ℕ };
 
     /// The fills that a quantity and the orders' lots come to.
     ghost split: { Self → ℕ → List ℕ → List ℕ };
 
-    fn mark() -> u8
-        ensures value { result ≡ letter };
+    /// Writes the split of what is in range into as many fills as there are orders.
+    fn fill(&self, quantity: u32, lots: &[u32], fills: &mut [u32])
+        requires range { InRange quantity lots.now }
+        requires level { length lots.now ≡ length fills.old }
+        ensures writes { fills.new ≡ split self.now quantity lots.now };
 
     /// Writes the split into `fills`. A refusal leaves them as they were.
-    fn allocate(
+    final fn allocate(
         &self,
         quantity: u32,
         lots: &[u32],
         fills: &mut [u32],
     ) -> Result<(), AllocationRefusal>
         ensures answers { answer result ≡ tested quantity lots.now (length fills.old) }
-        ensures writes { fills.new ≡ if_answered (tested quantity lots.now (length fills.old)) (split self.now quantity lots.now) fills.old };
+        ensures writes { fills.new ≡ if_answered (tested quantity lots.now (length fills.old)) (split self.now quantity lots.now) fills.old }
+    {
+        test(quantity, lots, fills.len())?;
+        self.fill(quantity, lots, fills);
+        Ok(())
+    }
 
     /// There are as many fills as orders.
     ghost as_many: { (policy : Self) (quantity : ℕ) (lots : List ℕ) → length (split policy quantity lots) ≡ length lots };

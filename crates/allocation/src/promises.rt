@@ -3,26 +3,20 @@ ghost use Rattle.allocation.specs.Range.{TestsAsTold};
 ghost use Rattle.allocation.specs.Promise.{FillsAll, InTurn, AtLeastTheShare, RemainderIsSmall, RemainderInTurn};
 
 /// The worked examples of docs/POLICIES.md are what the definitions give.
-pub fn worked_examples_hold() -> u8
+pub fn worked_examples_hold()
     ensures examples { WorkedExamples }
-{
-    0
-}
+{}
 
 /// What is refused, by facts.
-pub fn tests_are_as_told() -> u8
+pub fn tests_are_as_told()
     ensures as_told { TestsAsTold }
-{
-    0
-}
+{}
 
 /// What a trader may rely on, of any quantity and any level.
-pub fn promises_hold() -> u8
+pub fn promises_hold()
     ensures fills_all { FillsAll }
     ensures in_turn { InTurn }
     ensures at_least_the_share { AtLeastTheShare }
     ensures remainder_is_small { RemainderIsSmall }
     ensures remainder_in_turn { RemainderInTurn }
-{
-    0
-}
+{}

@@ -135,6 +135,6 @@ fn refuses_one_order_too_many(rt: HostRuntime) {
 
 #[test]
 fn policies_go_by_one_letter(rt: HostRuntime) {
-    assert_eq!(rt; <Fifo as Policy>::mark(), b'F');
-    assert_eq!(rt; <ProRata as Policy>::mark(), b'C');
+    assert_eq!(rt; <Fifo as Policy>::LETTER, b'F');
+    assert_eq!(rt; <ProRata as Policy>::LETTER, b'C');
 }

@@ -5,8 +5,6 @@ ghost use Rattle.allocation.specs.InTurn.{fifo_within, fifo_full};
 ghost use Rattle.allocation.specs.Rows.{each_le_at};
 
 use crate::policies::Policy;
-use crate::range::test;
-use crate::refusal::AllocationRefusal;
 
 /// First in, first out.
 #[derive(Clone, Copy, PartialEq, Eq, Debug)]
@@ -18,6 +16,7 @@ fn fill_in_turn(quantity: u32, lots: &[u32], fills: &mut [u32])
     ensures writes { fills.new ≡ fifo quantity lots.now }
 {
     let mut left = quantity;
+    // by the place, since an adapter of `iter_mut` does not tell a proof what was written
     for (i, order) in lots.iter().enumerate() {
         let fill = left.min(*order);
         fills[i] = fill;
@@ -28,7 +27,7 @@ fn fill_in_turn(quantity: u32, lots: &[u32], fills: &mut [u32])
 impl Policy for Fifo {
     const LETTER: u8 = b'F';
 
-    ghost letter = { 70 };
+    ghost LETTER = { 70 };
 
     ghost split = { λ _ quantity lots. fifo quantity lots };
 
@@ -38,18 +37,7 @@ impl Policy for Fifo {
 
     ghost full = { λ p q ls. fifo_full q ls };
 
-    fn mark() -> u8 {
-        Self::LETTER
-    }
-
-    fn allocate(
-        &self,
-        quantity: u32,
-        lots: &[u32],
-        fills: &mut [u32],
-    ) -> Result<(), AllocationRefusal> {
-        test(quantity, lots, fills.len())?;
+    fn fill(&self, quantity: u32, lots: &[u32], fills: &mut [u32]) {
         fill_in_turn(quantity, lots, fills);
-        Ok(())
     }
 }

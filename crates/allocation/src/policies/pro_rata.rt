@@ -7,8 +7,6 @@ ghost use Rattle.allocation.specs.Shares.{pro_rata_within, pro_rata_full};
 ghost use Rattle.allocation.specs.Rows.{each_le_at};
 
 use crate::policies::Policy;
-use crate::range::test;
-use crate::refusal::AllocationRefusal;
 
 /// In proportion to the lots.
 #[derive(Clone, Copy, PartialEq, Eq, Debug)]
@@ -18,11 +16,7 @@ fn total_of(lots: &[u32]) -> u64
     requires few { length lots.now ≤ most_orders }
     ensures value { result ≡ sum lots.now }
 {
-    let mut total = 0;
-    for order in lots {
-        total += *order as u64;
-    }
-    total
+    lots.iter().map(|order| u64::from(*order)).sum()
 }
 
 /// Gives each order its share of `trades`, rounded down, and returns what the shares come to.
@@ -36,6 +30,7 @@ fn give_shares(trades: u64, total: u64, lots: &[u32], fills: &mut [u32]) -> u64
     ensures value { result ≡ sum (map (share trades total) lots.now) }
 {
     let mut given = 0;
+    // by the place, since an adapter of `iter_mut` does not tell a proof what was written
     for (i, order) in lots.iter().enumerate() {
         let share = trades * *order as u64 / total;
         fills[i] = share as u32;
@@ -51,6 +46,7 @@ fn top_up(more: u64, lots: &[u32], fills: &mut [u32])
     ensures writes { fills.new ≡ topped_up more fills.old lots.now }
 {
     let mut left = more;
+    // by the place, as above
     for (i, order) in lots.iter().enumerate() {
         if left == 0 {
             break;
@@ -79,7 +75,7 @@ fn fill_in_proportion(quantity: u32, lots: &[u32], fills: &mut [u32])
 impl Policy for ProRata {
     const LETTER: u8 = b'C';
 
-    ghost letter = { 67 };
+    ghost LETTER = { 67 };
 
     ghost split = { λ _ quantity lots. pro_rata quantity lots };
 
@@ -89,18 +85,7 @@ impl Policy for ProRata {
 
     ghost full = { λ p q ls. pro_rata_full q ls };
 
-    fn mark() -> u8 {
-        Self::LETTER
-    }
-
-    fn allocate(
-        &self,
-        quantity: u32,
-        lots: &[u32],
-        fills: &mut [u32],
-    ) -> Result<(), AllocationRefusal> {
-        test(quantity, lots, fills.len())?;
+    fn fill(&self, quantity: u32, lots: &[u32], fills: &mut [u32]) {
         fill_in_proportion(quantity, lots, fills);
-        Ok(())
     }
 }
