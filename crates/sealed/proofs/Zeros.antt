@@ -1,5 +1,6 @@
 -- Bytes are all zero exactly where the number that they spell is 0, and where each word of them is.
-use Rattle.std.proofs.Common.{◌≡◌, ℕ, zero, suc, ◌+◌, ◌*◌, ◌<◌, Bool, true, eqb, List, [], ◌∷◌, ◌++◌, length, get_or, drop, replicate, Decides, sym, refl, ap, ◌∙◌, ⊎_elim, arith}
+use Rattle.std.proofs.Common.{◌≡◌, ℕ, zero, suc, ◌+◌, ◌*◌, ◌<◌, Bool, true, ◌&&◌, eqb, List, [], ◌∷◌, ◌++◌, length, get_or, drop, replicate, Decides, sym, refl, ap, ◌∙◌, ⊎_elim, arith}
+use Rattle.std.specs.List.{list_all}
 use lib.Bits.{bit_or, or_add_and, and_le_l, and_le_r}
 use lib.Lanes.{chunk}
 use Rattle.std.proofs.lemmas.Simd.{chunk-drop}
@@ -26,6 +27,11 @@ decided t xs f g =
     ⊎_elim (λ yes'. yes' ∙ sym (number_zeros xs (f yes')))
     (λ no'. ⊎_elim (λ z. g (zeros_number xs z) ∙ sym z) (λ nz. no' ∙ sym nz) (cases_Bool (all_zero xs)))
     (cases_Bool t)
+
+pub all_zero_each : (xs : List ℕ) → all_zero xs ≡ list_all (λ b. eqb b 0) xs
+unfolding all_zero
+all_zero_each [] = refl
+all_zero_each (x ∷ xs) = ap (λ b. eqb x 0 && b) (all_zero_each xs)
 
 pub zeros_replicate : (n : ℕ) → all_zero (replicate n 0) ≡ true
 unfolding all_zero
@@ -92,11 +98,6 @@ left_more any n m w xs part c f g h = (
       let q = number-++-zero part (drop m xs) (sym (ap number c) ∙ z.1) in
       (zero_or any w z.0 (g q.0), q.1),
 )
-
-pub left_byte : (any n : ℕ) (xs : List ℕ) → n < length xs → Left any n xs → Left (bit_or any (get_or xs n 0)) (n + 1) xs
-unfolding number
-left_byte any n xs lt h =
-    left_more any n (n + 1) (get_or xs n 0) xs (get_or xs n 0 ∷ []) (drop_more xs n 0 lt) (λ e. omega arith) (λ e. omega arith) h
 
 pub left_word : (any i w : ℕ) (xs : List ℕ) → w ≡ number (chunk (i * 8) 8 xs) → Left any (i * 8) xs → Left (bit_or any w) ((i + 1) * 8) xs
 left_word any i w xs e h =

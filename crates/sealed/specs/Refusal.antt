@@ -5,6 +5,9 @@ use Rattle.sealed.specs.Sealing.{sealing}
 use Rattle.sealed.specs.declared.sealer.SealRefusal.{SealRefusal}
 use Rattle.sealed.specs.declared.sealer.SealRefusal.TheVariants.{PayloadLength}
 
+abbrev pub number_of : SealRefusal → ℕ
+number_of (PayloadLength length) = 92
+
 abbrev pub answer : Result (Unit {0}) SealRefusal → Answer (Unit {0})
 answer (Ok _) = answered tt
 answer (Err (PayloadLength length)) = refused 92 (length ∷ [])

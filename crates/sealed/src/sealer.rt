@@ -1,6 +1,6 @@
 ghost use Rattle.answers.specs.Answer.{if_answered};
 ghost use Rattle.sealed.specs.Number.{low_bytes};
-ghost use Rattle.sealed.specs.Refusal.{answer, tested, Told};
+ghost use Rattle.sealed.specs.Refusal.{number_of, answer, tested, Told};
 ghost use Rattle.sealed.specs.Sealing.{sealing};
 ghost use Rattle.std.specs.Prelude.{◌≡◌, ◌-◌, ◌≤◌, ◌∷◌, ◌++◌, length, drop, replicate};
 
@@ -13,6 +13,17 @@ use crc32c::checksum;
 pub enum SealRefusal {
     /// A payload has 1 to 505 bytes, and this one has `length`.
     PayloadLength { length: usize },
+}
+
+impl SealRefusal {
+    /// The number by which reports name it.
+    pub fn number(self) -> u32
+        ensures value { result ≡ number_of self }
+    {
+        match self {
+            SealRefusal::PayloadLength { .. } => 92,
+        }
+    }
 }
 
 /// Makes `block` the sealed block of `payload`; a refusal leaves it as it was.

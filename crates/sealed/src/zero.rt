@@ -11,15 +11,5 @@ pub fn is_zero(bytes: &[u8]) -> bool
     for w in words {
         any |= u64::from_le_bytes(*w);
     }
-    any == 0 && is_zero_rest(rest)
-}
-
-fn is_zero_rest(bytes: &[u8]) -> bool
-    ensures value { result ≡ all_zero bytes.now }
-{
-    let mut any = 0u8;
-    for b in bytes {
-        any |= *b;
-    }
-    any == 0
+    any == 0 && rest.iter().all(|b| *b == 0)
 }
