@@ -1,49 +1,52 @@
 -- What is kept of a queue where an order is looked for, joins, leaves or is filled.
-use Rattle.std.proofs.Common.{◌≡◌, ℕ, suc, ◌+◌, ◌-◌, ◌*◌, ◌<◌, ◌≤◌, true, false, cond, ltb, leb, List, [], ◌∷◌, ◌++◌, length, get_or, take, drop, Some, None, sum, sym, refl, ap, ◌∙◌, ⊎_elim, arith}
-use Rattle.std.specs.List.{remove}
-use Rattle.std.proofs.lemmas.List.{drop_more, drop_all, take_more, append_assoc, append-nil, take_all}
+use Rattle.std.proofs.Common.{◌≡◌, ℕ, suc, ◌+◌, ◌-◌, ◌*◌, ◌<◌, ◌≤◌, Bool, true, false, not, cond, ltb, leb, List, [], ◌∷◌, ◌++◌, length, get_or, Some, None, MatchOption, sum, sym, refl, ap, ◌∙◌, ⊎_elim, arith}
+use Rattle.std.specs.List.{AllZip, remove, position_or_len}
 use Rattle.std.proofs.lemmas.List.Sums.{sum_by-cons}
-use Rattle.std.proofs.lemmas.Bool.{cond-true, cond-false, cases_Bool, and_parts, and_from, leb-true, le-leb, lt-ltb, le-ltb, cases_lt}
+use Rattle.std.proofs.lemmas.Bool.{cond-true, cond-false, cases_Bool, and_parts, and_from, leb-true, le-leb, lt-ltb, le-ltb, ltb-true, ltb-false, cases_lt}
 use Rattle.allocation.specs.Range.{tradable, all_tradable}
 use Rattle.market.specs.declared.resting.Resting.{Resting}
 use Rattle.market.specs.Market.{lots_of, total, is_of, in_queue}
 use Rattle.market.specs.Put.{less, after_fills, out_of_queue}
-use Rattle.level.specs.Fits.{Fits}
 
 -- ---- looking for an order
 
-module _ (member order : ℕ) (q : List Resting) (i : ℕ) (d : Resting) (h : i < length q) where
-  in_opened : in_queue member order (drop i q) ≡ cond (is_of member order (get_or q i d)) (Some (get_or q i d)) (in_queue member order (drop (i + 1) q))
-  in_opened = ap (in_queue member order) (drop_more q i d h)
+module _ (member order : ℕ) where
+  -- where it stands, or the length
+  abbrev pub place : List Resting → ℕ
+  place q = position_or_len (is_of member order) q
 
-  out_opened : out_of_queue member order (drop i q) ≡ cond (is_of member order (get_or q i d)) (drop (i + 1) q) (get_or q i d ∷ out_of_queue member order (drop (i + 1) q))
-  out_opened = ap (out_of_queue member order) (drop_more q i d h)
+  module _ (r : Resting) (rs : List Resting) where
+    next : suc (place rs) ≡ 1 + place rs
+    next = omega arith
 
-  pub found_in : is_of member order (get_or q i d) ≡ true → in_queue member order (drop i q) ≡ in_queue member order q → in_queue member order q ≡ Some (get_or q i d)
-  found_in e inv = sym inv ∙ in_opened ∙ cond-true _ _ _ e
+    in_step : (b : Bool) (d : Resting) → (place rs < length rs → in_queue member order rs ≡ Some (get_or rs (place rs) d)) → cond (not b) (1 + place rs) 0 < suc (length rs) → cond b (Some r) (in_queue member order rs) ≡ Some (get_or (r ∷ rs) (cond (not b) (1 + place rs) 0) d)
+    in_step true d later h = refl
+    in_step false d later h = later (omega arith) ∙ ap (λ k. Some (get_or (r ∷ rs) k d)) next
 
-  pub found_out : is_of member order (get_or q i d) ≡ true → take i q ++ out_of_queue member order (drop i q) ≡ out_of_queue member order q → remove q i ≡ out_of_queue member order q
-  found_out e inv =
-      let next : suc i ≡ i + 1 = omega arith in
-      let one : drop (suc i) q ≡ drop (i + 1) q = ap (λ n. drop n q) next in
-      ap (λ xs. take i q ++ xs) (one ∙ sym (out_opened ∙ cond-true _ _ _ e)) ∙ inv
+    out_step : (b : Bool) → (place rs < length rs → remove rs (place rs) ≡ out_of_queue member order rs) → cond (not b) (1 + place rs) 0 < suc (length rs) → remove (r ∷ rs) (cond (not b) (1 + place rs) 0) ≡ cond b rs (r ∷ out_of_queue member order rs)
+    out_step true later h = refl
+    out_step false later h = ap (remove (r ∷ rs)) (sym next) ∙ ap (λ xs. r ∷ xs) (later (omega arith))
 
-  pub past_in : is_of member order (get_or q i d) ≡ false → in_queue member order (drop i q) ≡ in_queue member order q → in_queue member order (drop (i + 1) q) ≡ in_queue member order q
-  past_in e inv = sym (in_opened ∙ cond-false _ _ _ e) ∙ inv
+    none_step : (b : Bool) → (length rs ≤ place rs → (in_queue member order rs ≡ None) × (out_of_queue member order rs ≡ rs)) → suc (length rs) ≤ cond (not b) (1 + place rs) 0 → (cond b (Some r) (in_queue member order rs) ≡ None) × (cond b rs (r ∷ out_of_queue member order rs) ≡ r ∷ rs)
+    none_step true later h = absurd (omega arith)
+    none_step false later h = let more = later (omega arith) in (more.0, ap (λ xs. r ∷ xs) more.1)
 
-  pub past_out : is_of member order (get_or q i d) ≡ false → take i q ++ out_of_queue member order (drop i q) ≡ out_of_queue member order q → take (i + 1) q ++ out_of_queue member order (drop (i + 1) q) ≡ out_of_queue member order q
-  past_out e inv =
-      ap (λ xs. xs ++ out_of_queue member order (drop (i + 1) q)) (take_more q i d h)
-      ∙ append_assoc (take i q) (get_or q i d ∷ []) _
-      ∙ ap (λ xs. take i q ++ xs) (sym (out_opened ∙ cond-false _ _ _ e))
-      ∙ inv
+  pub in_place : (q : List Resting) (d : Resting) → place q < length q → in_queue member order q ≡ Some (get_or q (place q) d)
+  in_place [] d h = absurd (omega arith)
+  in_place (r ∷ rs) d h = in_step r rs (is_of member order r) d (in_place rs d) h
 
-module _ (member order : ℕ) (q : List Resting) (i : ℕ) (h : length q ≤ i) where
-  pub none_in : in_queue member order (drop i q) ≡ in_queue member order q → in_queue member order q ≡ None
-  none_in inv = sym inv ∙ ap (in_queue member order) (drop_all i q h)
+  pub out_place : (q : List Resting) → place q < length q → remove q (place q) ≡ out_of_queue member order q
+  out_place [] h = absurd (omega arith)
+  out_place (r ∷ rs) h = out_step r rs (is_of member order r) (out_place rs) h
 
-  pub none_out : take i q ++ out_of_queue member order (drop i q) ≡ out_of_queue member order q → out_of_queue member order q ≡ q
-  none_out inv = sym inv ∙ ap (λ xs. take i q ++ out_of_queue member order xs) (drop_all i q h) ∙ append-nil (take i q) ∙ take_all i q h
+  pub none_there : (q : List Resting) → length q ≤ place q → (in_queue member order q ≡ None) × (out_of_queue member order q ≡ q)
+  none_there [] h = (refl, refl)
+  none_there (r ∷ rs) h = none_step r rs (is_of member order r) (none_there rs) h
+
+  -- what the search answers, by cases
+  pub placed : (q : List Resting) (b : Bool) → ltb (place q) (length q) ≡ b → MatchOption (cond b (Some (place q)) None) ((in_queue member order q ≡ None) × (out_of_queue member order q ≡ q)) (λ i. (i < length q) × (remove q i ≡ out_of_queue member order q) × ((d : Resting) → in_queue member order q ≡ Some (get_or q i d)))
+  placed q true e = let h = ltb-true (place q) (length q) e in (h, out_place q h, λ d. in_place q d h)
+  placed q false e = none_there q (ltb-false (place q) (length q) e)
 
 -- ---- lots together, and in range
 
@@ -113,13 +116,13 @@ module _ (member order : ℕ) where
 -- ---- fills that are taken off
 
 -- fills as a policy's laws have them, by places
-pub fits_from : (fs ls : List ℕ) → length fs ≡ length ls → ((i : ℕ) → get_or fs i 0 ≤ get_or ls i 0) → Fits fs ls
+pub fits_from : (fs ls : List ℕ) → length fs ≡ length ls → ((i : ℕ) → get_or fs i 0 ≤ get_or ls i 0) → AllZip ◌≤◌ fs ls
 fits_from [] [] e w = tt
 fits_from [] (l ∷ ls) e w = omega arith
 fits_from (f ∷ fs) [] e w = omega arith
 fits_from (f ∷ fs) (l ∷ ls) e w = (w 0, fits_from fs ls (omega arith) (λ i. w (suc i)))
 
-pub total_after : (fs : List ℕ) (q : List Resting) → Fits fs (lots_of q) → total (lots_of (after_fills fs q)) + total fs ≡ total (lots_of q)
+pub total_after : (fs : List ℕ) (q : List Resting) → AllZip ◌≤◌ fs (lots_of q) → total (lots_of (after_fills fs q)) + total fs ≡ total (lots_of q)
 total_after [] [] w = refl
 total_after [] (r ∷ q) w = absurd w
 total_after (f ∷ fs) [] w = absurd w

@@ -1,8 +1,8 @@
 -- Steps of the loops.
-use Rattle.std.proofs.Common.{◌≡◌, ℕ, zero, suc, ◌+◌, ◌<◌, ◌≤◌, cond, ltb, List, [], ◌∷◌, ◌++◌, length, get_or, take, drop, set, sym, refl, ap, ◌∙◌, arith}
+use Rattle.std.proofs.Common.{◌≡◌, ℕ, suc, ◌+◌, ◌<◌, ◌≤◌, cond, ltb, List, [], ◌∷◌, ◌++◌, length, get_or, take, drop, set, sym, refl, ap, ◌∙◌, arith}
 use Rattle.std.proofs.lemmas.List.{take_more_set, drop_more, drop_all, take_all, drop-set-lt, append_assoc, append-nil}
 use Rattle.std.proofs.lemmas.Bool.{cond-true, cond-false, lt-ltb, le-ltb}
-use Rattle.level.specs.Fits.{Fits}
+use Rattle.std.specs.List.{AllZip}
 use Rattle.market.specs.declared.resting.Resting.{Resting}
 use Rattle.market.specs.Market.{lots_of}
 use Rattle.market.specs.Put.{less, after_fills}
@@ -11,7 +11,7 @@ pub length_lots : (os : List Resting) → length (lots_of os) ≡ length os
 length_lots [] = refl
 length_lots (o ∷ os) = ap suc (length_lots os)
 
-pub fits_length : (fs ls : List ℕ) → Fits fs ls → length fs ≡ length ls
+pub fits_length : (fs ls : List ℕ) → AllZip ◌≤◌ fs ls → length fs ≡ length ls
 fits_length [] [] w = refl
 fits_length [] (l ∷ ls) w = absurd w
 fits_length (f ∷ fs) [] w = absurd w
@@ -51,11 +51,5 @@ pub filled_end : (fs : List ℕ) (qs whole : List Resting) (stay i : ℕ) → le
 filled_end fs qs whole stay i h k inv =
     sym (append-nil (take stay qs)) ∙ ap (λ xs. take stay qs ++ xs) (sym (ap (λ xs. after_fills xs (drop i qs)) (drop_all i fs h) ∙ drop_all i qs k)) ∙ inv
 
-pub fits_at : (fs : List ℕ) (os : List Resting) (i : ℕ) (d : Resting) → Fits fs (lots_of os) → i < length fs → get_or fs i 0 ≤ (get_or os i d).lots
-fits_at [] os i d w h = absurd (omega arith)
-fits_at (f ∷ fs) [] i d w h = absurd w
-fits_at (f ∷ fs) (o ∷ os) zero d w h = w.0
-fits_at (f ∷ fs) (o ∷ os) (suc i) d w h = fits_at fs os i d w.1 (omega arith)
-
-pub fits_even : (fs : List ℕ) (os : List Resting) → Fits fs (lots_of os) → length fs ≡ length os
+pub fits_even : (fs : List ℕ) (os : List Resting) → AllZip ◌≤◌ fs (lots_of os) → length fs ≡ length os
 fits_even fs os w = fits_length fs (lots_of os) w ∙ length_lots os

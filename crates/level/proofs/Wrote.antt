@@ -1,11 +1,12 @@
 -- Entries written one after another.
-use Rattle.std.proofs.Common.{◌≡◌, ℕ, zero, suc, ◌+◌, ◌-◌, ◌<◌, ◌≤◌, List, [], ◌∷◌, ◌++◌, length, get_or, take, drop, set, sym, refl, ap, ◌∙◌, arith}
-use Rattle.std.proofs.lemmas.List.{take_more_set, drop_more, drop_all, drop-set-lt, drop-drop, append_assoc, append-nil, length-set}
+use Rattle.std.proofs.Common.{◌≡◌, ℕ, zero, suc, ◌+◌, ◌-◌, ◌<◌, ◌≤◌, ◌⊎◌, inl, inr, List, [], ◌∷◌, ◌++◌, length, take, drop, set, sym, refl, ap, subst, ◌∙◌, arith}
+use Rattle.std.specs.List.{AllZip}
+use Rattle.std.proofs.lemmas.List.{take_more_set, drop-set-lt, drop-drop, append_assoc, length-set}
 use Rattle.market.specs.declared.resting.Resting.{Resting}
 use Rattle.market.specs.declared.entry.Entry.{Entry}
 use Rattle.fix.specs.Command.{NewOrder}
 use Rattle.market.specs.declared.entry.Event.TheVariants.{Filled}
-use Rattle.market.specs.Market.{total, other}
+use Rattle.market.specs.Market.{total, other, lots_of}
 use Rattle.market.specs.Put.{of_fill, of_fills, entry}
 
 pub drop_later : {X : Type 0} (l m : List X) (a b : ℕ) → a ≤ b → drop a l ≡ drop a m → drop b l ≡ drop b m
@@ -27,12 +28,6 @@ drop_two l m at x y e =
     ∙ drop-set-lt (at + 2) l at x (omega arith)
     ∙ drop_later l m at (at + 2) (omega arith) e
 
-pub total_drop : (fs : List ℕ) (i : ℕ) → i < length fs → total (drop i fs) ≡ get_or fs i 0 + total (drop (i + 1) fs)
-total_drop fs i h = ap total (drop_more fs i 0 h)
-
-pub total_end : (fs : List ℕ) (i : ℕ) → length fs ≤ i → total (drop i fs) ≡ 0
-total_end fs i h = ap total (drop_all i fs h)
-
 of_none : (o : NewOrder) (price f left : ℕ) (r : Resting) → f ≡ 0 → of_fill o price f left r ≡ []
 of_none o price zero left r e = refl
 of_none o price (suc f) left r e = absurd (omega arith)
@@ -41,31 +36,43 @@ of_some : (o : NewOrder) (price f left : ℕ) (r : Resting) → 0 < f → of_fil
 of_some o price zero left r h = absurd (omega arith)
 of_some o price (suc f) left r h = refl
 
-module _ (o : NewOrder) (price : ℕ) (fs : List ℕ) (qs : List Resting) (i left : ℕ) (d : Resting) (h : i < length fs) (k : i < length qs) where
-  opened : of_fills o price left (drop i fs) (drop i qs) ≡ of_fill o price (get_or fs i 0) left (get_or qs i d) ++ of_fills o price (left - get_or fs i 0) (drop (i + 1) fs) (drop (i + 1) qs)
-  opened = ap (λ xs. of_fills o price left xs (drop i qs)) (drop_more fs i 0 h) ∙ ap (λ xs. of_fills o price left (get_or fs i 0 ∷ drop (i + 1) fs) xs) (drop_more qs i d k)
+-- one turn: a fill of f lots with the order r; behind it `fs` and `rs` are left, before it they were `fs'` and `rs'`
+module _ (o : NewOrder) (price left f : ℕ) (r : Resting) (fs fs' : List ℕ) (rs rs' : List Resting) (ef : fs' ≡ f ∷ fs) (er : rs' ≡ r ∷ rs) where
+  opened : of_fills o price left fs' rs' ≡ of_fill o price f left r ++ of_fills o price (left - f) fs rs
+  opened = ap (λ xs. of_fills o price left xs rs') ef ∙ ap (of_fills o price left (f ∷ fs)) er
 
-  pub wrote_none : (front whole : List Entry) → get_or fs i 0 ≡ 0 → front ++ of_fills o price left (drop i fs) (drop i qs) ≡ whole → front ++ of_fills o price left (drop (i + 1) fs) (drop (i + 1) qs) ≡ whole
+  pub wrote_none : (front whole : List Entry) → f ≡ 0 → front ++ of_fills o price left fs' rs' ≡ whole → front ++ of_fills o price left fs rs ≡ whole
   wrote_none front whole z inv =
-      let same : left - get_or fs i 0 ≡ left = omega arith in
-      ap (λ n. front ++ of_fills o price n (drop (i + 1) fs) (drop (i + 1) qs)) (sym same)
-      ∙ ap (λ xs. front ++ (xs ++ of_fills o price (left - get_or fs i 0) (drop (i + 1) fs) (drop (i + 1) qs))) (sym (of_none o price (get_or fs i 0) left (get_or qs i d) z))
+      let same : left - f ≡ left = omega arith in
+      ap (λ n. front ++ of_fills o price n fs rs) (sym same)
+      ∙ ap (λ xs. front ++ (xs ++ of_fills o price (left - f) fs rs)) (sym (of_none o price f left r z))
       ∙ ap (λ xs. front ++ xs) (sym opened)
       ∙ inv
 
-  pub wrote_some : (list whole : List Entry) (at : ℕ) (x y : Entry) → at + 1 < length list → 0 < get_or fs i 0
-      → x ≡ entry o.number (get_or qs i d).member (get_or qs i d).order (Filled (other o.side) (get_or fs i 0) price ((get_or qs i d).lots - get_or fs i 0))
-      → y ≡ entry o.number o.member o.order (Filled o.side (get_or fs i 0) price (left - get_or fs i 0))
-      → take at list ++ of_fills o price left (drop i fs) (drop i qs) ≡ whole
-      → take (at + 2) (set (set list at x) (at + 1) y) ++ of_fills o price (left - get_or fs i 0) (drop (i + 1) fs) (drop (i + 1) qs) ≡ whole
+  pub wrote_some : (list whole : List Entry) (at : ℕ) (x y : Entry) → at + 1 < length list → 0 < f
+      → x ≡ entry o.number r.member r.order (Filled (other o.side) f price (r.lots - f))
+      → y ≡ entry o.number o.member o.order (Filled o.side f price (left - f))
+      → take at list ++ of_fills o price left fs' rs' ≡ whole
+      → take (at + 2) (set (set list at x) (at + 1) y) ++ of_fills o price (left - f) fs rs ≡ whole
   wrote_some list whole at x y room some ex ey inv =
-      let rest = of_fills o price (left - get_or fs i 0) (drop (i + 1) fs) (drop (i + 1) qs) in
-      let pair : of_fill o price (get_or fs i 0) left (get_or qs i d) ≡ x ∷ (y ∷ []) = of_some o price (get_or fs i 0) left (get_or qs i d) some ∙ ap (λ a. a ∷ (entry o.number o.member o.order (Filled o.side (get_or fs i 0) price (left - get_or fs i 0)) ∷ [])) (sym ex) ∙ ap (λ b. x ∷ (b ∷ [])) (sym ey) in
+      let rest = of_fills o price (left - f) fs rs in
+      let pair : of_fill o price f left r ≡ x ∷ (y ∷ []) = of_some o price f left r some ∙ ap (λ a. a ∷ (entry o.number o.member o.order (Filled o.side f price (left - f)) ∷ [])) (sym ex) ∙ ap (λ b. x ∷ (b ∷ [])) (sym ey) in
       ap (λ xs. xs ++ rest) (take_two list at x y room)
       ∙ append_assoc (take at list) (x ∷ (y ∷ [])) rest
       ∙ ap (λ xs. take at list ++ (xs ++ rest)) (sym pair)
       ∙ ap (λ xs. take at list ++ xs) (sym opened)
       ∙ inv
 
-pub wrote_all : (o : NewOrder) (price : ℕ) (fs : List ℕ) (qs : List Resting) (i left : ℕ) (front whole : List Entry) → length fs ≤ i → front ++ of_fills o price left (drop i fs) (drop i qs) ≡ whole → front ≡ whole
-wrote_all o price fs qs i left front whole h inv = sym (append-nil front) ∙ ap (λ xs. front ++ of_fills o price left xs (drop i qs)) (sym (drop_all i fs h)) ∙ inv
+  pub fits_next : AllZip ◌≤◌ fs' (lots_of rs') → (f ≤ r.lots) × AllZip ◌≤◌ fs (lots_of rs)
+  fits_next w = subst (λ xs. AllZip ◌≤◌ (f ∷ fs) (lots_of xs)) er (subst (λ xs. AllZip ◌≤◌ xs (lots_of rs')) ef w)
+
+  pub total_next : total fs' ≡ f + total fs
+  total_next = ap total ef
+
+-- nothing is left of the fills, or of the queue, and so of neither
+pub wrote_all : (o : NewOrder) (price left : ℕ) (fs : List ℕ) (rs : List Resting) → AllZip ◌≤◌ fs (lots_of rs) → (length fs ≡ 0) ⊎ (length rs ≡ 0) → (of_fills o price left fs rs ≡ []) × (total fs ≡ 0)
+wrote_all o price left [] [] w e = (refl, refl)
+wrote_all o price left [] (r ∷ rs) w e = absurd w
+wrote_all o price left (f ∷ fs) [] w e = absurd w
+wrote_all o price left (f ∷ fs) (r ∷ rs) w (inl e) = absurd (omega arith)
+wrote_all o price left (f ∷ fs) (r ∷ rs) w (inr e) = absurd (omega arith)

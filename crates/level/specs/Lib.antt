@@ -1,4 +1,3 @@
 pub mod Queue
 pub mod Refusal
-pub mod Fits
 pub mod Trade

@@ -5,9 +5,6 @@ ghost use Rattle.market.specs.Market.{lots_of, total};
 
 use market::Resting;
 
-/// The most orders at one price: as many as rest in all.
-pub const MOST_ORDERS: usize = 1_024;
-
 /// The orders at one price, oldest first.
 #[derive(Drop)]
 pub struct Level {

@@ -12,7 +12,8 @@ mod scratch;
 // the policy's fills, told and taken off
 mod trade;
 
-pub use level::{Level, MOST_ORDERS};
+pub use allocation::MOST_ORDERS;
+pub use level::Level;
 pub use refusal::{AddRefusal, TradeRefusal};
 pub use scratch::Scratch;
 pub use trade::Progress;

@@ -4,14 +4,14 @@ ghost use Rattle.answers.specs.Answer.{if_answered};
 ghost use Rattle.std.specs.List.{remove};
 ghost use Rattle.allocation.specs.Range.{tradable as is_tradable};
 ghost use Rattle.market.specs.declared.resting.Resting.{Resting};
-ghost use Rattle.market.specs.Market.{lots_of, total, is_of, in_queue};
+ghost use Rattle.market.specs.Market.{lots_of, total, in_queue};
 ghost use Rattle.market.specs.Put.{out_of_queue};
 ghost use Rattle.level.specs.Queue.{queue_of};
 ghost use Rattle.level.specs.Refusal.{add_answer, addition};
 
-use crate::level::{Level, MOST_ORDERS};
+use crate::level::Level;
 use crate::refusal::AddRefusal;
-use allocation::MOST_LOTS;
+use allocation::{MOST_LOTS, MOST_ORDERS};
 use market::Resting;
 use std::alloc::{AllocError, Global};
 
@@ -86,21 +86,9 @@ impl Level {
     }
 }
 
-fn is(resting: Resting, member: u32, order: u32) -> bool
-    ensures value { result ≡ is_of member order resting }
-{
-    resting.member == member && resting.order == order
-}
-
 /// The place of the member's order of that number.
 fn place_of(queue: &[Resting], member: u32, order: u32) -> Option<usize>
     ensures value { MatchOption result ((in_queue member order queue.now ≡ None) × (out_of_queue member order queue.now ≡ queue.now)) (λ place. (place < length queue.now) × (remove queue.now place ≡ out_of_queue member order queue.now) × ((d : Resting) → in_queue member order queue.now ≡ Some (slice_index_or queue.now place d))) }
 {
-    for place in 0..queue.len() {
-        let resting = queue[place];
-        if is(resting, member, order) {
-            return Some(place);
-        }
-    }
-    None
+    queue.iter().position(|resting| resting.member == member && resting.order == order)
 }

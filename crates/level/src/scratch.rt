@@ -1,10 +1,10 @@
-ghost use Rattle.std.specs.Prelude.{◌≡◌, ◌≤◌, length, IfOk, vec_len, vec_capacity, OnOk};
+ghost use Rattle.std.specs.Prelude.{◌≡◌, ◌≤◌, [], length, IfOk, vec_len, vec_capacity, MatchResult};
+ghost use Rattle.answers.specs.Answer.{answered, refused};
 ghost use Rattle.allocation.specs.Range.{tested};
-ghost use Rattle.allocation.specs.Refusal.{answer};
+ghost use Rattle.allocation.specs.Refusal.{number_of};
 ghost use Rattle.market.specs.Market.{lots_of};
 
-use crate::level::MOST_ORDERS;
-use allocation::{AllocationRefusal, Policy};
+use allocation::{AllocationRefusal, MOST_ORDERS, Policy};
 use market::Resting;
 use std::alloc::{AllocError, Global};
 
@@ -12,7 +12,7 @@ use std::alloc::{AllocError, Global};
 #[derive(Drop)]
 pub struct Scratch {
     lots: Vec<u32>,
-    pub(crate) fills: Vec<u32>,
+    fills: Vec<u32>,
     ghost lots_reserved: { 1024 ≤ vec_capacity lots },
     ghost fills_reserved: { 1024 ≤ vec_capacity fills },
 }
@@ -33,13 +33,13 @@ impl Scratch {
         policy: &P,
         quantity: u32,
         queue: &[Resting],
-    ) -> Result<(), AllocationRefusal>
+    ) -> Result<&[u32], AllocationRefusal>
         requires few { length queue.now ≤ 1024 }
-        ensures answers { answer result ≡ tested quantity (lots_of queue.now) (length queue.now) }
-        ensures fills { OnOk result (self.new.fills.items ≡ P.Policy.split policy.now quantity (lots_of queue.now)) }
+        ensures splits { MatchResult result (λ fills. (tested quantity (lots_of queue.now) (length queue.now) ≡ answered tt) × (fills.now ≡ P.Policy.split policy.now quantity (lots_of queue.now))) (λ why. tested quantity (lots_of queue.now) (length queue.now) ≡ refused (number_of why) []) }
     {
         copy_lots(queue, &mut self.lots, &mut self.fills);
-        ask(policy, quantity, self.lots.as_slice(), &mut self.fills)
+        policy.allocate(quantity, self.lots.as_slice(), self.fills.as_mut_slice())?;
+        Ok(self.fills.as_slice())
     }
 }
 
@@ -54,23 +54,8 @@ fn copy_lots(queue: &[Resting], lots: &mut Vec<u32>, fills: &mut Vec<u32>)
 {
     lots.clear();
     fills.clear();
-    for i in 0..queue.len() {
-        lots.push_reserved(queue[i].lots);
+    for resting in queue {
+        lots.push_reserved(resting.lots);
         fills.push_reserved(0);
     }
-}
-
-/// Asks the policy for its fills.
-fn ask<P: Policy>(
-    policy: &P,
-    quantity: u32,
-    lots: &[u32],
-    fills: &mut Vec<u32>,
-) -> Result<(), AllocationRefusal>
-    ensures answers { answer result ≡ tested quantity lots.now (vec_len fills.old) }
-    ensures items { OnOk result (fills.new.items ≡ P.Policy.split policy.now quantity lots.now) }
-    ensures memory { vec_capacity fills.new ≡ vec_capacity fills.old }
-{
-    policy.allocate(quantity, lots, fills.as_mut_slice())?;
-    Ok(())
 }

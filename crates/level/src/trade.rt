@@ -4,7 +4,7 @@ ghost use Rattle.market.specs.declared.entry.Event.TheVariants.{Filled};
 ghost use Rattle.market.specs.Market.{lots_of, total, other as opposite};
 ghost use Rattle.market.specs.Put.{entry as entry_of, after_fills};
 ghost use Rattle.answers.specs.Answer.{if_answered};
-ghost use Rattle.level.specs.Fits.{Fits};
+ghost use Rattle.std.specs.List.{AllZip};
 ghost use Rattle.level.specs.Queue.{queue_of};
 ghost use Rattle.level.specs.Refusal.{trade_answer, trading};
 ghost use Rattle.level.specs.Trade.{Reported};
@@ -42,10 +42,7 @@ impl Level {
         if before.written > list.len() || list.len() - before.written < 2 * self.queue.len() {
             return Err(TradeRefusal::ListTooShort);
         }
-        if let Err(why) = scratch.split(policy, before.left, self.queue.as_slice()) {
-            return Err(TradeRefusal::Policy(why));
-        }
-        let fills = scratch.fills.as_slice();
+        let fills = scratch.split(policy, before.left, self.queue.as_slice())?;
         let after = report(order, price, before, self.queue.as_slice(), fills, list);
         take_off(&mut self.queue, fills);
         self.lots -= before.left - after.left;
@@ -55,19 +52,16 @@ impl Level {
 
 /// The queue after its fills.
 pub(crate) fn take_off(queue: &mut Vec<Resting>, fills: &[u32])
-    requires fit { Fits fills.now (lots_of queue.old.items) }
+    requires fit { AllZip ◌≤◌ fills.now (lots_of queue.old.items) }
     ensures items { queue.new.items ≡ after_fills fills.now queue.old.items }
     ensures memory { vec_capacity queue.new ≡ vec_capacity queue.old }
 {
     let mut stay: usize = 0;
-    for i in 0..fills.len() {
+    for (i, fill) in fills.iter().enumerate() {
         let order = queue[i];
-        if fills[i] < order.lots {
-            queue[stay] = Resting {
-                member: order.member,
-                order: order.order,
-                lots: order.lots - fills[i],
-            };
+        if *fill < order.lots {
+            let lots = order.lots - *fill;
+            queue[stay] = Resting { lots, ..order };
             stay += 1;
         }
     }
@@ -122,20 +116,19 @@ pub(crate) fn report(
     fills: &[u32],
     list: &mut [Entry],
 ) -> Progress
-    requires fit { Fits fills.now (lots_of queue.now) }
+    requires fit { AllZip ◌≤◌ fills.now (lots_of queue.now) }
     requires enough { total fills.now ≤ before.left }
     requires room { before.written + 2 * length fills.now ≤ length list.old }
     ensures reported { Reported (order_figures order.now) price fills.now queue.now list.old list.new before result }
 {
     let mut left = before.left;
     let mut at = before.written;
-    for i in 0..fills.len() {
-        let fill = fills[i];
-        if fill > 0 {
-            list[at] = resting_entry(order, price, fill, queue[i]);
-            list[at + 1] = incoming_entry(order, price, fill, left);
+    for (fill, resting) in fills.iter().zip(queue) {
+        if *fill > 0 {
+            list[at] = resting_entry(order, price, *fill, *resting);
+            list[at + 1] = incoming_entry(order, price, *fill, left);
             at += 2;
-            left -= fill;
+            left -= *fill;
         }
     }
     Progress { left, written: at }

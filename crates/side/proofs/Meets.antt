@@ -1,7 +1,7 @@
 -- An incoming order meets one level after another.
 use Rattle.std.proofs.Common.{◌≡◌, ℕ, zero, suc, ◌+◌, ◌-◌, ◌<◌, ◌≤◌, min, true, false, ltb, ◌⊎◌, List, [], ◌∷◌, ◌++◌, length, sym, refl, ap, ◌∙◌, inl, inr, ⊎_elim, arith}
 use Rattle.std.proofs.lemmas.Bool.{cases_lt, cond-true, cond-false, le-ltb}
-use Rattle.level.specs.Fits.{Fits}
+use Rattle.std.specs.List.{AllZip}
 use Rattle.market.specs.declared.resting.Resting.{Resting}
 use Rattle.fix.specs.declared.command.Side.{Side}
 use Rattle.fix.specs.Command.{NewOrder}
@@ -13,13 +13,13 @@ use Rattle.side.proofs.Prices.{kept_priced}
 
 -- ---- a queue that is filled whole
 
-within_total : (fs ls : List ℕ) → Fits fs ls → total fs ≤ total ls
+within_total : (fs ls : List ℕ) → AllZip ◌≤◌ fs ls → total fs ≤ total ls
 within_total [] [] w = omega arith
 within_total [] (l ∷ ls) w = absurd w
 within_total (f ∷ fs) [] w = absurd w
 within_total (f ∷ fs) (l ∷ ls) w = omega (arith, w.0, within_total fs ls w.1)
 
-all_filled : (fs ls : List ℕ) → Fits fs ls → total fs ≡ total ls → fs ≡ ls
+all_filled : (fs ls : List ℕ) → AllZip ◌≤◌ fs ls → total fs ≡ total ls → fs ≡ ls
 all_filled [] [] w e = refl
 all_filled [] (l ∷ ls) w e = absurd w
 all_filled (f ∷ fs) [] w e = absurd w
@@ -33,7 +33,7 @@ after_whole : (rs : List Resting) → after_fills (lots_of rs) rs ≡ []
 after_whole [] = refl
 after_whole (r ∷ rs) = cond-false (ltb r.lots r.lots) _ _ (le-ltb r.lots r.lots (omega arith)) ∙ after_whole rs
 
-module _ (split : ℕ → List ℕ → List ℕ) (within : (q : ℕ) (ls : List ℕ) → Fits (split q ls) ls) (full : (q : ℕ) (ls : List ℕ) → total (split q ls) ≡ min q (total ls)) where
+module _ (split : ℕ → List ℕ → List ℕ) (within : (q : ℕ) (ls : List ℕ) → AllZip ◌≤◌ (split q ls) ls) (full : (q : ℕ) (ls : List ℕ) → total (split q ls) ≡ min q (total ls)) where
   -- a trade leaves nothing of the level, or nothing of the order
   pub done_or_gone : (q : ℕ) (rs : List Resting) → (after_fills (split q (lots_of rs)) rs ≡ []) ⊎ (q - total (split q (lots_of rs)) ≡ 0)
   done_or_gone q rs = ⊎_elim

@@ -3,7 +3,7 @@ use Rattle.allocation.specs.Range.{all_tradable}
 use Rattle.market.specs.declared.resting.Resting.{Resting}
 use Rattle.market.specs.Market.{lots_of, total}
 use Rattle.market.specs.Put.{after_fills}
-use Rattle.level.specs.Fits.{Fits}
+use Rattle.std.specs.List.{AllZip}
 use Rattle.level.proofs.Rows.{fits_even}
 use Rattle.level.proofs.Queues.{fits_from, total_sum, total_after, tradable_after, length_after}
 use Rattle.level.proofs.level.Level.trade.Given as given
@@ -11,7 +11,7 @@ use Rattle.level.proofs.level.Level.trade.Goals as goal
 
 module _ (g : given.Over) (p : g.row.P.Denot) (left : ℕ) (q : List Resting) where
   -- a policy's fills fit the queue
-  fitting : Fits (g.P.Policy.split p left (lots_of q)) (lots_of q)
+  fitting : AllZip ◌≤◌ (g.P.Policy.split p left (lots_of q)) (lots_of q)
   fitting = fits_from _ (lots_of q) (g.met.P.Policy.as_many p left (lots_of q)) (g.met.P.Policy.within p left (lots_of q))
 
   -- and are no more than what is left
@@ -23,9 +23,9 @@ report-after-requires g c =
     let q = vec_items c.args.self.now.queue in
     let p = c.args.policy.now in
     let left = c.args.before.left in
-    let fills : c.as_slice-fills.result.now ≡ g.P.Policy.split p left (lots_of q) = c.as_slice-fills.ensures.value ∙ c.in_default.ensures.fills ∙ ap (λ xs. g.P.Policy.split c.args.policy.now c.args.before.left (lots_of xs)) c.as_slice.ensures.value in
+    let fills : c.in_ok-fills.fills.now ≡ g.P.Policy.split p left (lots_of q) = c.in_ok-fills.ensures.splits.1 ∙ ap (λ xs. g.P.Policy.split c.args.policy.now c.args.before.left (lots_of xs)) c.as_slice.ensures.value in
     record {
-      fit = subst (λ xs. Fits c.as_slice-fills.result.now (lots_of xs)) (sym c.as_slice-2.ensures.value) (subst (λ fs. Fits fs (lots_of q)) (sym fills) (fitting g p left q));
+      fit = subst (λ xs. AllZip ◌≤◌ c.in_ok-fills.fills.now (lots_of xs)) (sym c.as_slice-2.ensures.value) (subst (λ fs. AllZip ◌≤◌ fs (lots_of q)) (sym fills) (fitting g p left q));
       enough = omega (arith, ap total fills, enough g p left q);
       room = omega (arith, ap length fills, fits_even _ q (fitting g p left q), c.if-list-before.false, c.if-before-list.false, c.len.ensures, c.args.self.now.queue.ok.0);
     }
@@ -35,8 +35,8 @@ take_off-requires g c =
     let q = vec_items c.args.self.now.queue in
     let p = c.args.policy.now in
     let left = c.args.before.left in
-    let fills : c.as_slice-fills.result.now ≡ g.P.Policy.split p left (lots_of q) = c.as_slice-fills.ensures.value ∙ c.in_default.ensures.fills ∙ ap (λ xs. g.P.Policy.split c.args.policy.now c.args.before.left (lots_of xs)) c.as_slice.ensures.value in
-    record { fit = subst (λ fs. Fits fs (lots_of q)) (sym fills) (fitting g p left q) }
+    let fills : c.in_ok-fills.fills.now ≡ g.P.Policy.split p left (lots_of q) = c.in_ok-fills.ensures.splits.1 ∙ ap (λ xs. g.P.Policy.split c.args.policy.now c.args.before.left (lots_of xs)) c.as_slice.ensures.value in
+    record { fit = subst (λ fs. AllZip ◌≤◌ fs (lots_of q)) (sym fills) (fitting g p left q) }
 
 pub overflow_sub-self-2 : goal.overflow_sub-self-2
 overflow_sub-self-2 g c =
@@ -44,7 +44,7 @@ overflow_sub-self-2 g c =
     let q = vec_items level.queue in
     let p = c.args.policy.now in
     let left = c.args.before.left in
-    let fills : c.as_slice-fills.result.now ≡ g.P.Policy.split p left (lots_of q) = c.as_slice-fills.ensures.value ∙ c.in_default.ensures.fills ∙ ap (λ xs. g.P.Policy.split c.args.policy.now c.args.before.left (lots_of xs)) c.as_slice.ensures.value in
+    let fills : c.in_ok-fills.fills.now ≡ g.P.Policy.split p left (lots_of q) = c.in_ok-fills.ensures.splits.1 ∙ ap (λ xs. g.P.Policy.split c.args.policy.now c.args.before.left (lots_of xs)) c.as_slice.ensures.value in
     omega (arith, level.together, c.report-after.ensures.reported.left, ap total fills, total_after _ q (fitting g p left q))
 
 pub invariant_of-self : goal.invariant_of-self
@@ -53,7 +53,7 @@ invariant_of-self g c =
     let q = vec_items level.queue in
     let p = c.args.policy.now in
     let left = c.args.before.left in
-    let fills : c.as_slice-fills.result.now ≡ g.P.Policy.split p left (lots_of q) = c.as_slice-fills.ensures.value ∙ c.in_default.ensures.fills ∙ ap (λ xs. g.P.Policy.split c.args.policy.now c.args.before.left (lots_of xs)) c.as_slice.ensures.value in
+    let fills : c.in_ok-fills.fills.now ≡ g.P.Policy.split p left (lots_of q) = c.in_ok-fills.ensures.splits.1 ∙ ap (λ xs. g.P.Policy.split c.args.policy.now c.args.before.left (lots_of xs)) c.as_slice.ensures.value in
     let fs = g.P.Policy.split p left (lots_of q) in
     let after : vec_items c.take_off.new.queue ≡ after_fills fs q = c.take_off.ensures.items ∙ ap (λ xs. after_fills xs q) fills in
     record {
