@@ -1,5 +1,5 @@
 -- A turn of the loop over the levels.
-use Rattle.std.proofs.Common.{◌≡◌, ℕ, ◌+◌, ◌-◌, ◌<◌, min, true, false, ◌&&◌, ltb, leb, List, [], ◌∷◌, ◌++◌, length, take, sym, refl, ap, ◌∙◌, ⊎_elim, arith}
+use Rattle.std.proofs.Common.{◌≡◌, ℕ, ◌+◌, ◌-◌, ◌<◌, min, true, false, ◌&&◌, ltb, leb, List, [], ◌∷◌, ◌++◌, length, take, sym, refl, ap, ◌∙◌, ⊎_elim, arith, ◌≤◌}
 use Rattle.std.proofs.lemmas.List.{append_assoc, length-map}
 use Rattle.std.proofs.lemmas.Bool.{and_parts, and_cases, ltb-true, ltb-false, false≢true}
 use Rattle.ordered.specs.Order.{by_price}
@@ -8,7 +8,7 @@ use Rattle.ordered.specs.declared.node.Node.{Node}
 use Rattle.ordered.specs.declared.key.price.Price.{Price}
 use Rattle.level.specs.declared.level.Level.{Level as Held}
 use Rattle.level.specs.declared.trade.Progress.{Progress}
-use Rattle.level.specs.Fits.{Fits}
+use Rattle.std.specs.List.{AllZip}
 use Rattle.level.specs.Trade.{Reported}
 use Rattle.level.proofs.Wrote.{drop_later}
 use Rattle.fix.specs.Command.{NewOrder}
@@ -49,7 +49,7 @@ module _ (o : NewOrder) (s : Side) (limit : ℕ) (side : s ≡ other o.side) (is
         crossed = crosses_rank o s n.key.0 side fits (first_in_range (n ∷ ns) n (omega arith) t) ∙ ap (leb n.key.0) (sym is) ∙ both.1;
       }
 
-  module _ (split : ℕ → List ℕ → List ℕ) (within : (q : ℕ) (ls : List ℕ) → Fits (split q ls) ls) (full : (q : ℕ) (ls : List ℕ) → total (split q ls) ≡ min q (total ls)) where
+  module _ (split : ℕ → List ℕ → List ℕ) (within : (q : ℕ) (ls : List ℕ) → AllZip ◌≤◌ (split q ls) ls) (full : (q : ℕ) (ls : List ℕ) → total (split q ls) ≡ min q (total ls)) where
     -- and ends where nothing more happens
     pub meets_end : (ns : List (Node Price Held)) (left : ℕ) → standing ns ≡ true → false ≡ (ltb 0 left && first_within limit (seen ns)) → meets split o left (priced s (seen ns)) ≡ record { left = left; levels = priced s (seen ns); entries = [] }
     meets_end [] left t e = refl
@@ -62,7 +62,7 @@ module _ (o : NewOrder) (s : Side) (limit : ℕ) (side : s ≡ other o.side) (is
         meets_stops split within full o left (at_price s (seen_as n)) (priced s (seen ns)) (crosses_rank o s n.key.0 side fits (first_in_range (n ∷ ns) n (omega arith) t) ∙ ap (leb n.key.0) (sym is) ∙ z))
         (and_cases (ltb 0 left) (leb n.key.0 limit) (sym e))
 
-module _ (split : ℕ → List ℕ → List ℕ) (within : (q : ℕ) (ls : List ℕ) → Fits (split q ls) ls) (full : (q : ℕ) (ls : List ℕ) → total (split q ls) ≡ min q (total ls))
+module _ (split : ℕ → List ℕ → List ℕ) (within : (q : ℕ) (ls : List ℕ) → AllZip ◌≤◌ (split q ls) ls) (full : (q : ℕ) (ls : List ℕ) → total (split q ls) ≡ min q (total ls))
     (o : NewOrder) (s : Side) (start : ℕ)
     (ns ns' ns'' : List (Node Price Held)) (list list' list'' : List Entry) (at after : Progress)
     (before : Meeting split o s start ns ns' list list' at.left at.written)

@@ -1,7 +1,7 @@
-use Rattle.std.proofs.Common.{◌≡◌, ℕ, min, ◌&&◌, ltb, List, [], ◌++◌, take, vec_items, sym, refl, ap, ◌∙◌, arith}
+use Rattle.std.proofs.Common.{◌≡◌, ℕ, min, ◌&&◌, ltb, List, [], ◌++◌, take, vec_items, sym, refl, ap, ◌∙◌, arith, ◌≤◌}
 use Rattle.std.proofs.lemmas.List.{append-nil}
 use Rattle.fix.specs.Command.{order_figures}
-use Rattle.level.specs.Fits.{Fits}
+use Rattle.std.specs.List.{AllZip}
 use Rattle.level.proofs.Queues.{fits_from, total_sum, tradable_from}
 use Rattle.market.specs.Market.{total}
 use Rattle.market.specs.Put.{Met, meets}
@@ -15,7 +15,7 @@ use Rattle.side.proofs.meet.meet.Given as given
 use Rattle.side.proofs.meet.meet.Goals as goal
 
 module _ (g : given.Over) (p : g.row.P.Denot) where
-  fitting : (q : ℕ) (ls : List ℕ) → Fits (g.P.Policy.split p q ls) ls
+  fitting : (q : ℕ) (ls : List ℕ) → AllZip ◌≤◌ (g.P.Policy.split p q ls) ls
   fitting q ls = fits_from (g.P.Policy.split p q ls) ls (g.met.P.Policy.as_many p q ls) (g.met.P.Policy.within p q ls)
 
   full : (q : ℕ) (ls : List ℕ) → total (g.P.Policy.split p q ls) ≡ min q (total ls)
