@@ -13,7 +13,7 @@ mod laws;
 mod reading;
 // why a message is refused
 mod refusal;
-// commands from figures that may be out of range
+// the number of a side, and commands from figures that may be out of range
 mod figures;
 // messages written
 mod writing;

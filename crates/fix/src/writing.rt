@@ -10,7 +10,7 @@ ghost use Rattle.fix.specs.Refusal.{written_answer, room};
 ghost use Rattle.fix.specs.Writing.{Wrote, numbers, over_front};
 
 use crate::buffer::{Numbered, numbers_length, put_number, put_numbers, put_text};
-use crate::command::{Cancel, Command, NewOrder, Side};
+use crate::command::{Cancel, Command, NewOrder};
 use crate::reading::sum_of;
 use crate::refusal::BufferTooShort;
 
@@ -92,10 +92,6 @@ fn body_length(command: &Command) -> usize
 fn order_fields(o: &NewOrder) -> [Numbered; 6]
     ensures { numbers result ≡ shown_row new_order_fields (new_order_values (order_figures o.now)) }
 {
-    let side = match o.side {
-        Side::Buy => 1,
-        Side::Sell => 2,
-    };
     [
         Numbered {
             tag: 49,
@@ -111,7 +107,7 @@ fn order_fields(o: &NewOrder) -> [Numbered; 6]
         },
         Numbered {
             tag: 54,
-            number: side,
+            number: o.side.number(),
         },
         Numbered {
             tag: 38,
