@@ -3,8 +3,6 @@
 
 // commands, with their ranges as invariants
 mod command;
-// fields written into a buffer
-mod buffer;
 // the fields of a message, one after the other
 mod layout;
 // the laws: each command has one spelling, and that is read back
@@ -15,6 +13,8 @@ mod reading;
 mod refusal;
 // the number of a side, and commands from figures that may be out of range
 mod figures;
+// fields written into a buffer
+mod writer;
 // messages written
 mod writing;
 
