@@ -1,7 +1,7 @@
 // What is on this drive? Reads a journal's image from standard input, and says of each block what it is.
 #![tactic(auto)]
 
-use console::{Feed, refusal_number};
+use console::Feed;
 use sealed::{BLOCK, check, is_zero};
 use std::io::Read;
 
@@ -101,7 +101,7 @@ fn count_messages(payload: &[u8]) -> (usize, Option<u32>) {
             break;
         };
         if let Err(stopped) = next {
-            return (feed.taken(), Some(refusal_number(stopped.why)));
+            return (feed.taken(), Some(stopped.why.number()));
         }
     }
     (feed.taken(), None)

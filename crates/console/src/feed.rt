@@ -17,7 +17,7 @@ pub struct Feed<'a> {
 }
 
 /// Where a run of messages stops: nothing says where a message after a wrong one would begin.
-#[derive(Clone, Copy)]
+#[derive(Clone, Copy, PartialEq, Eq, Debug)]
 pub struct Stopped {
     pub why: MessageRefusal,
     /// the message's count, from 1

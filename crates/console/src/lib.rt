@@ -10,7 +10,7 @@ mod table;
 
 pub use feed::{Feed, Stopped};
 pub use shown::unshow;
-pub use table::{HEADER, Refused, Row, refusal_number};
+pub use table::{HEADER, Refused, Row};
 
 #[cfg(test)]
 mod tests;

@@ -1,7 +1,4 @@
 // Rows of the table of messages, and refusals in words.
-ghost use Rattle.std.specs.Prelude.{◌≡◌};
-ghost use Rattle.fix.specs.Refusal.{number_of};
-
 use crate::feed::Stopped;
 use fix::{Command, MessageRefusal, Side};
 use std::fmt;
@@ -50,40 +47,34 @@ pub struct Refused(pub MessageRefusal);
 
 impl fmt::Display for Refused {
     fn fmt<W: fmt::Write>(&self, f: &mut fmt::Formatter<W>) -> fmt::Result {
+        let number = self.0.number();
         let words = meaning(self.0);
-        match self.0 {
-            MessageRefusal::WrongField { place } => write!(f, "refused\t{words}\tbyte {place}"),
-            MessageRefusal::WrongCount | MessageRefusal::WrongSum => write!(f, "refused\t{words}"),
+        write!(f, "refused\t{number}\t{words}")?;
+        if let MessageRefusal::WrongField { place } = self.0 {
+            write!(f, "\tbyte {place}")?;
         }
+        Ok(())
     }
 }
 
 /// Where a run of messages stops: the refusal, the message's count and the byte of the run.
 impl fmt::Display for Stopped {
     fn fmt<W: fmt::Write>(&self, f: &mut fmt::Formatter<W>) -> fmt::Result {
+        let number = self.why.number();
         let words = meaning(self.why);
         let message = self.message;
         let byte = self.byte;
-        write!(f, "refused\t{words}\tmessage {message}\tbyte {byte}")
+        write!(
+            f,
+            "refused\t{number}\t{words}\tmessage {message}\tbyte {byte}"
+        )
     }
 }
 
-/// The number by which people know a refusal.
-pub fn refusal_number(why: MessageRefusal) -> u32
-    ensures value { result ≡ number_of why }
-{
-    match why {
-        MessageRefusal::WrongField { .. } => 11,
-        MessageRefusal::WrongCount => 12,
-        MessageRefusal::WrongSum => 13,
-    }
-}
-
-/// The number of a refusal, and what it means.
 fn meaning(why: MessageRefusal) -> &'static str {
     match why {
-        MessageRefusal::WrongField { .. } => "11\ta field is wrong or missing",
-        MessageRefusal::WrongCount => "12\tBodyLength is not the count of bytes",
-        MessageRefusal::WrongSum => "13\tCheckSum is not the sum of bytes",
+        MessageRefusal::WrongField { .. } => "a field is wrong or missing",
+        MessageRefusal::WrongCount => "BodyLength is not the count of bytes",
+        MessageRefusal::WrongSum => "CheckSum is not the sum of bytes",
     }
 }

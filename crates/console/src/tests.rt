@@ -1,5 +1,5 @@
 // A run of messages on an example.
-use crate::{Feed, refusal_number, unshow};
+use crate::{Feed, unshow};
 use std::test::Fail;
 
 // An order, and a second one whose member has a leading zero.
@@ -20,7 +20,7 @@ fn stops_at_the_wrong_field(rt: HostRuntime) -> Result<(), Fail> {
     let Err(stopped) = second else {
         return Err(Fail::new("taken"));
     };
-    assert_eq!(rt; refusal_number(stopped.why), 11);
+    assert_eq!(rt; stopped.why.number(), 11);
     assert!(rt; stopped.message == 2 && stopped.byte == 81);
     assert!(rt; feed.place() == 61 && feed.taken() == 1);
     Ok(())

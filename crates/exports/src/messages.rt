@@ -1,11 +1,11 @@
 ghost use Rattle.std.specs.Prelude.{◌≡◌, length, sum};
 ghost use Rattle.fix.specs.Command.{figures};
-ghost use Rattle.fix.specs.Message.{parse, values_of, side_number};
+ghost use Rattle.fix.specs.Message.{parse, values_of};
 ghost use Rattle.fix.specs.Refusal.{tested_order};
 ghost use Rattle.exports.specs.Code.{code};
 ghost use Rattle.exports.specs.Message.{place as place_of, digest, side_of, order_of, text_of, written_length, written_into};
 
-use fix::{Command, MessageRefusal, NewOrder, Side, read, write};
+use fix::{Command, NewOrder, Side, read, write};
 
 /// Reads a message: 0, or the number of the refusal.
 #[unsafe(no_mangle)]
@@ -14,9 +14,7 @@ pub extern "C" fn lezdamir_refusal(bytes: &[u8]) -> u32
 {
     match read(bytes) {
         Ok(_) => 0,
-        Err(MessageRefusal::WrongField { .. }) => 11,
-        Err(MessageRefusal::WrongCount) => 12,
-        Err(MessageRefusal::WrongSum) => 13,
+        Err(why) => why.number(),
     }
 }
 
@@ -26,8 +24,8 @@ pub extern "C" fn lezdamir_place(bytes: &[u8]) -> usize
     ensures value { result ≡ place_of (parse bytes.now) }
 {
     match read(bytes) {
-        Err(MessageRefusal::WrongField { place }) => place,
-        _ => 0,
+        Ok(_) => 0,
+        Err(why) => why.place(),
     }
 }
 
@@ -50,20 +48,11 @@ fn digest_of(command: &Command) -> u64
             68 + o.member as u64
                 + o.number as u64
                 + o.order as u64
-                + side_number(o.side)
+                + o.side.number() as u64
                 + o.lots as u64
                 + o.price as u64
         }
         Command::Cancel(o) => 70 + o.member as u64 + o.number as u64 + o.order as u64,
-    }
-}
-
-fn side_number(side: Side) -> u64
-    ensures value { result ≡ side_number side }
-{
-    match side {
-        Side::Buy => 1,
-        Side::Sell => 2,
     }
 }
 

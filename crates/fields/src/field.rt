@@ -3,7 +3,7 @@ ghost use Rattle.std.specs.Prelude.{◌≡◌, true, false, MatchOption};
 ghost use Rattle.fields.specs.Kind.{known, tag_of, value_of};
 
 /// A field by its kind, with its value, a part of the bytes that it was read from.
-#[derive(Clone, Copy)]
+#[derive(Clone, Copy, PartialEq, Eq, Debug)]
 pub enum Field<'a> {
     BeginString(&'a [u8]),
     BodyLength(&'a [u8]),
@@ -19,14 +19,14 @@ pub enum Field<'a> {
 }
 
 /// A field, and the place of its first byte.
-#[derive(Clone, Copy)]
+#[derive(Clone, Copy, PartialEq, Eq, Debug)]
 pub struct Placed<'a> {
     pub field: Field<'a>,
     pub place: usize,
 }
 
 /// The field that starts at this place, or should start there, is wrong or missing.
-#[derive(Clone, Copy)]
+#[derive(Clone, Copy, PartialEq, Eq, Debug)]
 pub struct WrongField {
     pub place: usize,
 }

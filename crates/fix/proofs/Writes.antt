@@ -2,10 +2,10 @@
 use Rattle.std.proofs.Common.{◌≡◌, ℕ, ◌+◌, ◌-◌, ◌/◌, ◌%◌, ◌^◌, ◌<◌, ◌≤◌, List, [], ◌∷◌, ◌++◌, length, get_or, take, drop, set, decimal, sym, refl, ap, ◌∙◌, subst, append_assoc, add-zero, add-one, arith, length-append, length-drop}
 use Rattle.std.proofs.lemmas.List.{length-take-le, take-append-drop, take_at, drop_at, drop-drop, set_split, at_drop_more}
 use Rattle.std.proofs.lemmas.Fmt.{decimal_digit, decimal_step}
-use borrow.Rule.Slice.PartMut.{put_mid}
 use Rattle.fields.specs.Field.{written}
-use Rattle.fix.specs.declared.buffer.Numbered.{Numbered}
-use Rattle.fix.specs.Writing.{over, Wrote, numbers}
+use Rattle.fix.specs.declared.writer.Numbered.{Numbered}
+use Rattle.fix.specs.declared.writer.Writer.{Writer}
+use Rattle.fix.specs.Writing.{over, Fits, Wrote, numbers}
 use Rattle.fix.proofs.Lengths.{more_digits, written_length}
 
 module _ (b : List ℕ) (a : ℕ) where
@@ -40,109 +40,52 @@ module _ (b : List ℕ) (a : ℕ) where
       regroup : (x s t y : List ℕ) → (x ++ s) ++ (t ++ y) ≡ x ++ ((s ++ t) ++ y)
       regroup x s t y = simp append_assoc
 
--- a write, and then another at its end
-module _ {b m z : List ℕ} {a e f : ℕ} (s t : List ℕ) where
-  pub wrote_more : Wrote b m a e s → Wrote m z e f t → a + length s + length t ≤ length b → Wrote b z a f (s ++ t)
-  wrote_more p q h = record {
-    ends = let e1 = p.ends in let e2 = q.ends in simp length-append (omega arith);
-    is = q.is ∙ (λ i. over (p.is i) (p.ends i) t) ∙ over_more b a s t h;
+pub over_one : (b : List ℕ) (a x : ℕ) → a < length b → set b a x ≡ over b a (x ∷ [])
+over_one b a x h = set_split b a x h ∙ ap (λ n. take a b ++ x ∷ drop n b) (sym (add-one a))
+
+-- one byte more
+pub over_byte : (b : List ℕ) (a x : ℕ) (s : List ℕ) → a + length s < length b → set (over b a s) (a + length s) x ≡ over b a (s ++ x ∷ [])
+over_byte b a x s h =
+    let long = over_length b a s (omega arith) in
+    over_one (over b a s) (a + length s) x (omega arith) ∙ over_more b a s (x ∷ []) (omega arith)
+
+-- a write, and then another behind it
+module _ {u v : Writer} (s t : List ℕ) (first : Wrote u v s) (room : Fits u (s ++ t)) where
+  all : length (s ++ t) ≡ length s + length t
+  all = length-append s t
+
+  same_length : length v.out.now ≡ length u.out.now
+  same_length = let n = all in ap length first.is ∙ over_length u.out.now u.at s (omega arith)
+
+  pub fits_after : Fits v t
+  fits_after =
+      let n = all in
+      let long = same_length in
+      omega (arith, first.ends)
+
+  pub wrote_more : {w : Writer} → Wrote v w t → Wrote u w (s ++ t)
+  wrote_more second = let n = all in record {
+    same = second.same ∙ first.same;
+    ends = omega (arith, first.ends, second.ends);
+    is = second.is ∙ (λ i. over (first.is i) (first.ends i) t) ∙ over_more u.out.now u.at s t (omega arith);
   }
 
-pub wrote_length : {b m : List ℕ} {a e : ℕ} (s : List ℕ) → Wrote b m a e s → a + length s ≤ length b → length m ≡ length b
-wrote_length {b = b} {a = a} s p h = ap length p.is ∙ over_length b a s h
+pub fits_front : (u : Writer) (s t : List ℕ) → Fits u (s ++ t) → Fits u s
+fits_front u s t room = let n = length-append s t in omega arith
 
-pub room_after : {b m : List ℕ} {a e : ℕ} (s t : List ℕ) → Wrote b m a e s → a + length s + length t ≤ length b → e + length t ≤ length m
-room_after s t w h =
-    let long = wrote_length s w (omega arith) in
-    omega (arith, w.ends)
-
-pub wrote_none : (b : List ℕ) (a : ℕ) → Wrote b b a a []
-wrote_none b a = record { ends = omega arith; is = sym (take-append-drop a b) ∙ ap (λ n. take a b ++ drop n b) (sym (add-zero a)) }
-
-pub wrote_byte : (b : List ℕ) (a x : ℕ) → a < length b → Wrote b (set b a x) a (a + 1) (x ∷ [])
-wrote_byte b a x h = record { ends = refl; is = set_split b a x h ∙ ap (λ n. take a b ++ x ∷ drop n b) (sym (add-one a)) }
-
-pub wrote_part : (b text part : List ℕ) (a : ℕ) → part ≡ text → a + length text ≤ length b → Wrote b (put_mid a (a + length text - a) b part) a (a + length text) text
-wrote_part b text part a p h = record {
-  ends = refl;
-  is =
-      let k : a + length text - a ≡ length text = omega arith in
-      (λ i. take a b ++ (p i ++ drop (k i) (drop a b))) ∙ ap (λ l. take a b ++ (text ++ l)) (drop-drop (length text) a b);
-}
-
--- a number, by its last digit
-pub wrote_digit : {b z : List ℕ} {a e : ℕ} (n : ℕ) → n < 10 → Wrote b z a e ((48 + n) ∷ []) → Wrote b z a e (decimal n)
-wrote_digit {b = b} {z = z} {a = a} {e = e} n h w = subst (Wrote b z a e) (sym (decimal_digit n h)) w
-
-module _ (n : ℕ) (h : 10 ≤ n) (small : n < 2 ^ 64) (b : List ℕ) (a : ℕ) (room : a + length (decimal n) ≤ length b) where
-  step : decimal n ≡ decimal (n / 10) ++ (48 + n % 10) ∷ []
-  step = decimal_step n h small
-
-  more : length (decimal n) ≡ length (decimal (n / 10)) + 1
-  more = more_digits n h small
-
-  pub front_room : a + length (decimal (n / 10)) ≤ length b
-  front_room = let m = more in omega arith
-
-  module _ {m : List ℕ} {e : ℕ} (w : Wrote b m a e (decimal (n / 10))) where
-    pub last_room : e < length m
-    last_room =
-        let k = more in
-        let long = wrote_length (decimal (n / 10)) w front_room in
-        omega (arith, w.ends)
-
-    pub wrote_last : {z : List ℕ} {f : ℕ} → Wrote m z e f ((48 + n % 10) ∷ []) → Wrote b z a f (decimal n)
-    wrote_last {z = z} {f = f} v = let k = more in subst (Wrote b z a f) (sym step) (wrote_more (decimal (n / 10)) _ w v (omega arith))
+pub wrote_none : (u : Writer) → Wrote u u []
+wrote_none u = record { same = refl; ends = omega arith; is = sym (take-append-drop u.at u.out.now) ∙ ap (λ n. take u.at u.out.now ++ drop n u.out.now) (sym (add-zero u.at)) }
 
 -- a field: its tag, "=", its value and the byte 1
-module _ (D v b : List ℕ) (a : ℕ) (room : a + length (D ++ 61 ∷ (v ++ 1 ∷ [])) ≤ length b) where
-  size : length (D ++ 61 ∷ (v ++ 1 ∷ [])) ≡ length D + length v + 2
-  size = simp length-append (omega arith)
+pub wrote_field : {u a b c d : Writer} (D v : List ℕ) → Fits u (D ++ 61 ∷ (v ++ 1 ∷ [])) → Wrote u a D → Wrote a b (61 ∷ []) → Wrote b c v → Wrote c d (1 ∷ []) → Wrote u d (D ++ 61 ∷ (v ++ 1 ∷ []))
+wrote_field D v room tag equals value end =
+    let at_equals = fits_after D (61 ∷ (v ++ 1 ∷ [])) tag room in
+    let at_value = fits_after (61 ∷ []) (v ++ 1 ∷ []) equals at_equals in
+    wrote_more D _ tag room (wrote_more (61 ∷ []) _ equals at_equals (wrote_more v _ value at_value end))
 
-  pub tag_room : a + length D ≤ length b
-  tag_room = let n = size in omega arith
-
-  module _ {m1 : List ℕ} {e1 : ℕ} (w1 : Wrote b m1 a e1 D) where
-    pub equals_room : e1 < length m1
-    equals_room =
-        let n = size in
-        let long = wrote_length D w1 tag_room in
-        omega (arith, w1.ends)
-
-    module _ {m2 : List ℕ} {e2 : ℕ} (w2 : Wrote m1 m2 e1 e2 (61 ∷ [])) where
-      two : Wrote b m2 a e2 (D ++ 61 ∷ [])
-      two = let n = size in wrote_more D (61 ∷ []) w1 w2 (omega arith)
-
-      pub value_room : e2 + length v ≤ length m2
-      value_room =
-          let n = size in
-          let k : length (D ++ 61 ∷ []) ≡ length D + 1 = length-append D (61 ∷ []) in
-          let long = wrote_length (D ++ 61 ∷ []) two (omega arith) in
-          omega (arith, two.ends)
-
-      module _ {m3 : List ℕ} {e3 : ℕ} (w3 : Wrote m2 m3 e2 e3 v) where
-        three : Wrote b m3 a e3 ((D ++ 61 ∷ []) ++ v)
-        three =
-            let n = size in
-            let k : length (D ++ 61 ∷ []) ≡ length D + 1 = length-append D (61 ∷ []) in
-            wrote_more (D ++ 61 ∷ []) v two w3 (omega arith)
-
-        three-size : length ((D ++ 61 ∷ []) ++ v) ≡ length D + length v + 1
-        three-size = simp length-append (omega arith)
-
-        pub end-room : e3 < length m3
-        end-room =
-            let n = size in
-            let k = three-size in
-            let long = wrote_length ((D ++ 61 ∷ []) ++ v) three (omega arith) in
-            omega (arith, three.ends)
-
-        pub wrote-field : {m4 : List ℕ} {e4 : ℕ} → Wrote m3 m4 e3 e4 (1 ∷ []) → Wrote b m4 a e4 (D ++ 61 ∷ (v ++ 1 ∷ []))
-        wrote-field {m4 = m4} {e4 = e4} w4 =
-            let n = size in
-            let k = three-size in
-            let same : ((D ++ 61 ∷ []) ++ v) ++ 1 ∷ [] ≡ D ++ 61 ∷ (v ++ 1 ∷ []) = simp append_assoc in
-            subst (Wrote b m4 a e4) same (wrote_more ((D ++ 61 ∷ []) ++ v) (1 ∷ []) three w4 (omega arith))
+-- a number, by its last digit
+pub last_digit : (n : ℕ) → 10 ≤ n → n < 2 ^ 64 → decimal n ≡ decimal (n / 10) ++ (48 + n % 10) ∷ []
+last_digit n h small = decimal_step n h small
 
 -- fields with numbers: the one at i, and those after it
 abbrev pub nothing : Numbered
@@ -155,26 +98,8 @@ module _ (fs : List Numbered) (i : ℕ) (h : i < length fs) where
   abbrev here : Numbered
   here = get_or fs i nothing
 
-  next : numbers (drop i fs) ≡ text_of here ++ numbers (drop (i + 1) fs)
+  pub next : numbers (drop i fs) ≡ text_of here ++ numbers (drop (i + 1) fs)
   next = at_drop_more numbers fs i nothing h
 
   pub next_length : length (numbers (drop i fs)) ≡ length (decimal here.tag) + (length (decimal here.number) + 2) + length (numbers (drop (i + 1) fs))
   next_length = ap length next ∙ length-append (text_of here) (numbers (drop (i + 1) fs)) ∙ ap (λ n. n + length (numbers (drop (i + 1) fs))) (written_length here.tag (decimal here.number))
-
-  module _ (b : List ℕ) (a : ℕ) (room : a + length (numbers fs) ≤ length b) {m : List ℕ} {e : ℕ} (front : List ℕ) (w : Wrote b m a e front) (all : front ++ numbers (drop i fs) ≡ numbers fs) where
-    sizes : length front + (length (text_of here) + length (numbers (drop (i + 1) fs))) ≡ length (numbers fs)
-    sizes =
-        ap (λ n. length front + n) (sym (length-append (text_of here) (numbers (drop (i + 1) fs)))) ∙ ap (λ l. length front + length l) (sym next)
-        ∙ sym (length-append front (numbers (drop i fs))) ∙ ap length all
-
-    pub next_room : e + length (text_of here) ≤ length m
-    next_room =
-        let s = sizes in
-        let long = wrote_length front w (omega arith) in
-        omega (arith, w.ends)
-
-    pub wrote_next : {z : List ℕ} {f : ℕ} → Wrote m z e f (text_of here) → Wrote b z a f (front ++ text_of here)
-    wrote_next v = let s = sizes in wrote_more front (text_of here) w v (omega arith)
-
-    pub still_all : (front ++ text_of here) ++ numbers (drop (i + 1) fs) ≡ numbers fs
-    still_all = append_assoc front (text_of here) (numbers (drop (i + 1) fs)) ∙ ap (λ l. front ++ l) (sym next) ∙ all

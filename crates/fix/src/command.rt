@@ -1,7 +1,7 @@
 // Commands. Their ranges are invariants of the types, so that no command out of range can exist.
 ghost use Rattle.fix.specs.Range.{Within, largest_member, largest_number, largest_lots, largest_price};
 
-#[derive(Clone, Copy)]
+#[derive(Clone, Copy, PartialEq, Eq, Debug)]
 pub enum Side {
     Buy,
     Sell,

@@ -1,5 +1,6 @@
-// Commands made of figures that may be out of range.
+// The number of a side, and commands made of figures that may be out of range.
 ghost use Rattle.std.specs.Prelude.{◌≡◌};
+ghost use Rattle.fix.specs.Message.{side_number};
 ghost use Rattle.fix.specs.Refusal.{order_answer, cancel_answer, tested_order, tested_cancel};
 
 use crate::command::{Cancel, NewOrder, Side};
@@ -13,6 +14,18 @@ const LARGEST_NUMBER: u32 = 999_999_999;
 const LARGEST_LOTS: u32 = 999_999;
 
 const LARGEST_PRICE: u32 = 999_999;
+
+impl Side {
+    /// Its number in field 54.
+    pub fn number(self) -> u32
+        ensures value { result ≡ side_number self }
+    {
+        match self {
+            Side::Buy => 1,
+            Side::Sell => 2,
+        }
+    }
+}
 
 impl NewOrder {
     /// The order of these figures, or the first of them that is out of range.

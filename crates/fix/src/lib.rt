@@ -3,8 +3,6 @@
 
 // commands, with their ranges as invariants
 mod command;
-// fields written into a buffer
-mod buffer;
 // the fields of a message, one after the other
 mod layout;
 // the laws: each command has one spelling, and that is read back
@@ -13,8 +11,10 @@ mod laws;
 mod reading;
 // why a message is refused
 mod refusal;
-// commands from figures that may be out of range
+// the number of a side, and commands from figures that may be out of range
 mod figures;
+// fields written into a buffer
+mod writer;
 // messages written
 mod writing;
 

@@ -7,12 +7,12 @@ ghost use Rattle.fix.specs.Command.{figures, order_figures, cancel_figures};
 ghost use Rattle.fix.specs.Layout.{new_order_fields, cancel_fields};
 ghost use Rattle.fix.specs.Message.{values_of, new_order_values, cancel_values, body_by, render};
 ghost use Rattle.fix.specs.Refusal.{written_answer, room};
-ghost use Rattle.fix.specs.Writing.{Wrote, numbers, over_front};
+ghost use Rattle.fix.specs.Writing.{Fits, Wrote, numbers, over_front};
 
-use crate::buffer::{Numbered, numbers_length, put_number, put_numbers, put_text};
-use crate::command::{Cancel, Command, NewOrder, Side};
+use crate::command::{Cancel, Command, NewOrder};
 use crate::reading::sum_of;
 use crate::refusal::BufferTooShort;
+use crate::writer::{Numbered, Writer, numbers_length};
 
 /// No message is longer: a new order with every figure at its largest.
 pub const LONGEST: usize = 86;
@@ -41,14 +41,17 @@ pub fn write(command: &Command, out: &mut [u8]) -> Result<usize, BufferTooShort>
 fn put_message(out: &mut [u8], command: &Command, body: usize) -> usize
     requires body { body ≡ length_of (body_by (values_of (figures command.now))) }
     requires room { length_of (render (figures command.now)) ≤ length_of out.old }
-    ensures { Wrote out.old out.new 0 result (render (figures command.now)) }
+    ensures length { result ≡ length_of (render (figures command.now)) }
+    ensures out { out.new ≡ over_front out.old (render (figures command.now)) }
 {
-    let end = put_text(out, 0, 8, b"FIX.4.4");
-    let end = put_number(out, end, 9, body as u32);
-    let end = put_body(out, end, command);
-    let sum = sum_of(&out[0..end]);
+    let mut message = Writer::new(out);
+    message.text(8, b"FIX.4.4");
+    message.number(9, body as u32);
+    put_body(&mut message, command);
+    let sum = sum_of(message.so_far());
     let digits = [b'0' + sum / 100, b'0' + sum / 10 % 10, b'0' + sum % 10];
-    put_text(out, end, 10, &digits)
+    message.text(10, &digits);
+    message.place()
 }
 
 /// How long the command's message is.
@@ -59,23 +62,23 @@ pub fn length(command: &Command) -> usize
 }
 
 /// From the kind up to field 10.
-fn put_body(out: &mut [u8], at: usize, command: &Command) -> usize
-    requires room { at + length_of (body_by (values_of (figures command.now))) ≤ length_of out.old }
-    ensures { Wrote out.old out.new at result (body_by (values_of (figures command.now))) }
+fn put_body(message: &mut Writer<'_>, command: &Command)
+    requires room { Fits message.old (body_by (values_of (figures command.now))) }
+    ensures { Wrote message.old message.new (body_by (values_of (figures command.now))) }
 {
     match command {
-        Command::New(o) => put_kind(out, at, b"D", &order_fields(o)),
-        Command::Cancel(o) => put_kind(out, at, b"F", &cancel_fields(o)),
+        Command::New(o) => put_kind(message, b"D", &order_fields(o)),
+        Command::Cancel(o) => put_kind(message, b"F", &cancel_fields(o)),
     }
 }
 
 /// A kind, and the fields after it.
-fn put_kind(out: &mut [u8], at: usize, letter: &[u8], fields: &[Numbered]) -> usize
-    requires room { at + length_of (written 35 letter.now ++ numbers fields.now) ≤ length_of out.old }
-    ensures { Wrote out.old out.new at result (written 35 letter.now ++ numbers fields.now) }
+fn put_kind(message: &mut Writer<'_>, letter: &[u8], fields: &[Numbered])
+    requires room { Fits message.old (written 35 letter.now ++ numbers fields.now) }
+    ensures { Wrote message.old message.new (written 35 letter.now ++ numbers fields.now) }
 {
-    let end = put_text(out, at, 35, letter);
-    put_numbers(out, end, fields)
+    message.text(35, letter);
+    message.numbers(fields);
 }
 
 fn body_length(command: &Command) -> usize
@@ -92,10 +95,6 @@ fn body_length(command: &Command) -> usize
 fn order_fields(o: &NewOrder) -> [Numbered; 6]
     ensures { numbers result ≡ shown_row new_order_fields (new_order_values (order_figures o.now)) }
 {
-    let side = match o.side {
-        Side::Buy => 1,
-        Side::Sell => 2,
-    };
     [
         Numbered {
             tag: 49,
@@ -111,7 +110,7 @@ fn order_fields(o: &NewOrder) -> [Numbered; 6]
         },
         Numbered {
             tag: 54,
-            number: side,
+            number: o.side.number(),
         },
         Numbered {
             tag: 38,

@@ -2,10 +2,9 @@
 ghost use Rattle.std.specs.Prelude.{◌≡◌, ◌+◌, ◌<◌, ◌≤◌, length, MatchOption};
 ghost use Rattle.console.specs.Feed.{source, place as place_of, taken as taken_of, left, answer, next, bytes_taken, messages_taken};
 ghost use Rattle.fix.specs.Message.{parse_first};
-ghost use Rattle.fix.specs.Refusal.{place_of as place_in};
 
 use crate::feed::{Feed, Stopped};
-use fix::{Command, MessageRefusal, read_first};
+use fix::{Command, read_first};
 
 impl<'a> Feed<'a> {
     /// The messages of these bytes, from the first on.
@@ -56,18 +55,8 @@ impl<'a> Feed<'a> {
             Err(why) => Some(Err(Stopped {
                 why,
                 message: self.count + 1,
-                byte: at + place_in(why),
+                byte: at + why.place(),
             })),
         }
-    }
-}
-
-/// The place of a refusal within its message.
-fn place_in(why: MessageRefusal) -> usize
-    ensures { result ≡ place_in why }
-{
-    match why {
-        MessageRefusal::WrongField { place } => place,
-        MessageRefusal::WrongCount | MessageRefusal::WrongSum => 0,
     }
 }

@@ -1,6 +1,6 @@
 use Rattle.std.proofs.Common.{◌≡◌, ℕ, ◌+◌, ◌≤◌, List, [], ◌∷◌, ◌++◌, length, sym, ap, ◌∙◌, arith, length-append}
 use Rattle.fields.specs.Field.{written}
-use Rattle.fix.specs.declared.buffer.Numbered.{Numbered}
+use Rattle.fix.specs.declared.writer.Numbered.{Numbered}
 use Rattle.fix.specs.declared.command.Command as code
 use Rattle.fix.specs.Command.{figures}
 use Rattle.fix.specs.Message.{values_of, body_by}

@@ -33,7 +33,7 @@ returns-in-Err c =
     let says = c.in-Err.ensures.answer in
     let why = c.in-Err.why in
     record {
-      answer = ap (λ p. Some (refusal why (count + 1) (at + p))) c.place_in.ensures ∙ ap (λ a. Some a) (located_refusal at count why) ∙ some_answer at count _ _ same some _ says;
+      answer = ap (λ p. Some (refusal why (count + 1) (at + p))) c.place.ensures.value ∙ ap (λ a. Some a) (located_refusal at count why) ∙ some_answer at count _ _ same some _ says;
       source = refl;
       place = sym (ap (λ n. at + n) (no_bytes why) ∙ add-zero at) ∙ some_place at count _ _ same some _ says;
       taken = sym (ap (λ n. count + n) (no_message why) ∙ add-zero count) ∙ some_taken at count _ _ same some _ says;

@@ -1,7 +1,7 @@
 use Rattle.std.proofs.Common.{◌^◌, ◌<◌, sym, arith}
 use Rattle.std.proofs.lemmas.Fmt.{length-decimal-le}
 use Rattle.fix.proofs.Lengths.{one_digit, more_digits}
-use Rattle.fix.proofs.buffer.+digits.Goals as goal
+use Rattle.fix.proofs.writer.+digits.Goals as goal
 
 pub returns-then-n-lt10 : goal.returns-then-n-lt10
 returns-then-n-lt10 t c = record { value = sym (one_digit _ c.if-n-lt10.true); few = omega arith }

@@ -1,4 +1,4 @@
-use Rattle.fix.proofs.buffer.+digits.Given as goal
+use Rattle.fix.proofs.writer.+digits.Given as goal
 
 abbrev pub decreases-digits : goal.decreases-digits
 decreases-digits l = l.n

@@ -2,7 +2,7 @@ use Rattle.std.proofs.Common.{length, arith}
 use Rattle.std.proofs.lemmas.List.{at_drop_all}
 use Rattle.fix.specs.Writing.{numbers}
 use Rattle.fix.proofs.Writes.{next_length}
-use Rattle.fix.proofs.buffer.numbers_length.Goals as goal
+use Rattle.fix.proofs.writer.numbers_length.Goals as goal
 
 pub loop-field-preserved : goal.loop-field-preserved
 loop-field-preserved c =
