@@ -1,8 +1,13 @@
 -- What a total order gives. Assumes nothing.
 use Rattle.std.proofs.Common.{◌≡◌, true, false, Ordering, Less, Equal, Greater, sym, refl, ap, ◌∙◌, ⊎_elim}
 use Rattle.std.specs.Ordering.{ordering_reverse, is_lt, is_eq}
+use Rattle.std.specs.Cmp.{IsTotalOrder, tied_itself}
 use Rattle.std.proofs.lemmas.Bool.{cases_Bool, false≢true}
 use Rattle.ordered.specs.Order.{Total}
+
+-- the laws of a kind of key
+pub total_from : {K : Type 0} {order : K → K → Ordering} → IsTotalOrder order → ((a b : K) → order a b ≡ Equal → a ≡ b) → Total order
+total_from o same = record { itself = tied_itself o; same = same; turned = λ a b. o.antisymm b a; transitive = o.trans }
 
 pub less_from : (o : Ordering) → is_lt o ≡ true → o ≡ Less
 less_from Less e = refl

@@ -1,7 +1,6 @@
 use Rattle.std.proofs.Common.{ap}
 use Rattle.std.specs.Option.{option_map}
-use Rattle.ordered.specs.Order.{Total}
-use Rattle.ordered.proofs.Orders.{ne_from}
+use Rattle.ordered.proofs.Orders.{total_from, ne_from}
 use Rattle.ordered.proofs.Between.{ascends}
 use Rattle.ordered.proofs.Ascends.{ascending_none, ascending_put, ascending_without}
 use Rattle.ordered.proofs.Insertions.{insertion_there, insertion_full, insertion_fits}
@@ -11,9 +10,8 @@ use Rattle.ordered.proofs.laws.laws_hold.Goals as goal
 
 pub returns : goal.returns
 returns g c =
-    let order = g.K.Key.order in
-    let met = g.met.K.Key in
-    let total : Total order = record { itself = met.itself; same = met.same; turned = met.turned; transitive = met.transitive } in
+    let order = g.K.Ord.cmp in
+    let total = total_from g.met.K.Ord.total g.met.K.Key.same in
     record {
       looks_up = record {
         empty = λ key. ap (option_map (λ n. n.value)) (node_none order key);

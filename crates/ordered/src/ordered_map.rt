@@ -1,0 +1,129 @@
+ghost use Rattle.std.specs.Prelude.{◌≡◌, ◌≤◌, true, [], length, IfOk, IfErr, MatchResult};
+ghost use Rattle.answers.specs.Answer.{if_answered};
+ghost use Rattle.std.specs.Option.{option_map};
+ghost use Rattle.ordered.specs.Place.{At, Gap};
+ghost use Rattle.ordered.specs.Refusal.{answer, handed_back, insertion, Inserted};
+ghost use Rattle.ordered.specs.Row.{node_with, lookup, found, put, without, ascending, first as first_of, last as last_of};
+
+use crate::key::Key;
+use crate::node::Node;
+use crate::refusal::InsertRefusal;
+use crate::row::changes;
+use crate::row::search::search;
+use std::alloc::{AllocError, Global};
+use std::marker::Model;
+
+// A map in memory that is reserved once. None can exist whose keys do not ascend.
+#[derive(Drop)]
+pub struct OrderedMap<K: Key, V> {
+    nodes: Vec<Node<K, V>>,
+    // how many nodes the map takes
+    capacity: usize,
+}
+
+impl<K: Key, V> Model for OrderedMap<K, V> {
+    ghost use Rattle.std.specs.Prelude.{◌≡◌, ◌≤◌, true, vec_len, vec_capacity};
+    ghost use Rattle.ordered.specs.Kept.{Kept};
+    ghost use Rattle.ordered.specs.Row.{ascending};
+
+    ghost Value = { Kept K V };
+
+    ghost view = { λ m. record { nodes = m.nodes.items; capacity = m.capacity } };
+
+    ghost invariant = { λ m. (ascending K.cmp m.nodes.items ≡ true) × (vec_len m.nodes ≤ m.capacity) × (m.capacity ≤ vec_capacity m.nodes) };
+}
+
+impl<K: Key, V> OrderedMap<K, V> {
+    // A map of none, with memory for `capacity` nodes. Nothing allocates after this.
+    #[tactic(auto, using(crate::proofs::Ascends::ascending_none))]
+    pub fn new(heap: Global, capacity: usize) -> Result<OrderedMap<K, V>, AllocError>
+        ensures made { IfOk result (λ map. (map.nodes ≡ []) × (map.capacity ≡ capacity)) }
+    {
+        let nodes = Vec::with_capacity(heap, capacity)?;
+        Ok(OrderedMap { nodes, capacity })
+    }
+
+    // How many nodes the map holds.
+    pub fn len(&self) -> usize
+        ensures value { result ≡ length self.now.nodes }
+        ensures inside { result ≤ self.now.capacity }
+        ensures ascending { ascending K.cmp self.now.nodes ≡ true }
+    {
+        self.nodes.len()
+    }
+
+    // How many it has memory for.
+    pub fn capacity(&self) -> usize
+        ensures value { result ≡ self.now.capacity }
+    {
+        self.capacity
+    }
+
+    // Where the key stands among the keys, or, as an error, where it would go.
+    pub fn search(&self, key: &K) -> Result<usize, usize>
+        ensures value { result ≡ found K.cmp self.now.nodes key.now }
+        ensures places { MatchResult result (At K.cmp self.now.nodes key.now) (Gap K.cmp self.now.nodes key.now) }
+    {
+        search(self.nodes.as_slice(), key)
+    }
+
+    // The value under the key.
+    pub fn get(&self, key: &K) -> Option<&V>
+        ensures value { option_map (λ x. x.now) result ≡ lookup K.cmp self.now.nodes key.now }
+    {
+        match search(self.nodes.as_slice(), key) {
+            Ok(place) => Some(&self.nodes[place].value),
+            Err(_) => None,
+        }
+    }
+
+    // Puts the node in, unless its key is there or there is no room; the node is then handed back, and the map is as it was.
+    pub fn insert(&mut self, node: Node<K, V>) -> Result<(), InsertRefusal<K, V>>
+        ensures answers { answer result ≡ insertion K.cmp self.old.capacity self.old.nodes node.key }
+        ensures hands_back { IfErr result (λ refusal. handed_back refusal ≡ node) }
+        ensures nodes { self.new.nodes ≡ if_answered (insertion K.cmp self.old.capacity self.old.nodes node.key) (put K.cmp node self.old.nodes) self.old.nodes }
+        ensures capacity { self.new.capacity ≡ self.old.capacity }
+        ensures ascending { ascending K.cmp self.new.nodes ≡ true }
+        ensures told { Inserted K.cmp self.old.capacity node self.old.nodes self.new.nodes result }
+    {
+        changes::insert(&mut self.nodes, self.capacity, node)
+    }
+
+    // Takes out the node with the key.
+    pub fn remove(&mut self, key: &K) -> Option<Node<K, V>>
+        ensures value { result ≡ node_with K.cmp self.old.nodes key.now }
+        ensures nodes { self.new.nodes ≡ without K.cmp self.old.nodes key.now }
+        ensures capacity { self.new.capacity ≡ self.old.capacity }
+        ensures ascending { ascending K.cmp self.new.nodes ≡ true }
+    {
+        changes::remove(&mut self.nodes, key)
+    }
+
+    // The node with the least key.
+    #[tactic(auto, using(crate::proofs::Ends::first_item))]
+    pub fn first(&self) -> Option<&Node<K, V>>
+        ensures value { option_map (λ x. x.now) result ≡ first_of self.now.nodes }
+    {
+        self.nodes.first()
+    }
+
+    // The node with the greatest key.
+    #[tactic(auto, using(crate::proofs::Ends::last_item))]
+    pub fn last(&self) -> Option<&Node<K, V>>
+        ensures value { option_map (λ x. x.now) result ≡ last_of self.now.nodes }
+    {
+        self.nodes.last()
+    }
+}
+
+impl<K: Key + Drop, V: Drop> OrderedMap<K, V> {
+    // Takes every node out.
+    #[tactic(auto, using(crate::proofs::Ascends::ascending_none))]
+    pub fn clear(&mut self)
+        ensures nodes { self.new.nodes ≡ [] }
+        ensures capacity { self.new.capacity ≡ self.old.capacity }
+        ensures ascending { ascending K.cmp self.new.nodes ≡ true }
+    {
+        self.nodes.clear();
+    }
+}
