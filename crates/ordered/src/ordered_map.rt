@@ -1,6 +1,8 @@
-ghost use Rattle.std.specs.Prelude.{◌≡◌, ◌≤◌, true, [], length, IfOk, IfErr, MatchResult};
+ghost use Rattle.std.specs.Prelude.{◌≡◌, ◌<◌, ◌≤◌, true, [], length, Some, IfOk, IfErr, MatchResult};
 ghost use Rattle.answers.specs.Answer.{if_answered};
-ghost use Rattle.std.specs.Option.{option_map};
+ghost use Rattle.std.specs.Borrow.{sem};
+ghost use Rattle.std.specs.List.{slice_get};
+ghost use Rattle.std.specs.Option.{option_map, option_copied_mut};
 ghost use Rattle.ordered.specs.Place.{At, Gap};
 ghost use Rattle.ordered.specs.Refusal.{answer, handed_back, insertion, Inserted};
 ghost use Rattle.ordered.specs.Row.{node_with, lookup, found, put, without, ascending, first as first_of, last as last_of};
@@ -34,6 +36,8 @@ impl<K: Key, V> Model for OrderedMap<K, V> {
 }
 
 impl<K: Key, V> OrderedMap<K, V> {
+    ghost use Rattle.ordered.specs.Lent.{lends_at, lends_under, lends_first};
+
     // A map of none, with memory for `capacity` nodes. Nothing allocates after this.
     #[tactic(auto, using(crate::proofs::Ascends::ascending_none))]
     pub fn new(heap: Global, capacity: usize) -> Result<OrderedMap<K, V>, AllocError>
@@ -63,6 +67,7 @@ impl<K: Key, V> OrderedMap<K, V> {
     pub fn search(&self, key: &K) -> Result<usize, usize>
         ensures value { result ≡ found K.cmp self.now.nodes key.now }
         ensures places { MatchResult result (At K.cmp self.now.nodes key.now) (Gap K.cmp self.now.nodes key.now) }
+        ensures ascending { ascending K.cmp self.now.nodes ≡ true }
     {
         search(self.nodes.as_slice(), key)
     }
@@ -70,6 +75,7 @@ impl<K: Key, V> OrderedMap<K, V> {
     // The value under the key.
     pub fn get(&self, key: &K) -> Option<&V>
         ensures value { option_map (λ x. x.now) result ≡ lookup K.cmp self.now.nodes key.now }
+        ensures ascending { ascending K.cmp self.now.nodes ≡ true }
     {
         match search(self.nodes.as_slice(), key) {
             Ok(place) => Some(&self.nodes[place].value),
@@ -99,10 +105,55 @@ impl<K: Key, V> OrderedMap<K, V> {
         changes::remove(&mut self.nodes, key)
     }
 
+    // The value at a place, to be changed where it lies.
+    fn value_at(&mut self, place: usize) -> &mut V
+        requires within { place < length self.old.nodes }
+        ensures* writes_back { sem 𝓛 (lends_at K.row V.row K.Ord self.entry place result) }
+        ensures value { option_map (λ n. n.value) (slice_get self.old.nodes place) ≡ Some result.now }
+    {
+        let node = &mut self.nodes[place];
+        &mut node.value
+    }
+
+    // The value under the key, to be changed where it lies.
+    pub fn get_mut(&mut self, key: &K) -> Option<&mut V>
+        ensures* writes_back { sem 𝓛 (lends_under K.row V.row K.Ord self.entry key.now result) }
+        ensures value { option_copied_mut result ≡ lookup K.cmp self.old.nodes key.now }
+        ensures ascending { ascending K.cmp self.old.nodes ≡ true }
+    {
+        match self.search(key) {
+            Ok(place) => Some(self.value_at(place)),
+            Err(_) => None,
+        }
+    }
+
+    // The value under the least key, to be changed where it lies.
+    pub fn first_mut(&mut self) -> Option<&mut V>
+        ensures* writes_back { sem 𝓛 (lends_first K.row V.row K.Ord self.entry result) }
+        ensures value { option_copied_mut result ≡ option_map (λ n. n.value) (first_of self.old.nodes) }
+        ensures ascending { ascending K.cmp self.old.nodes ≡ true }
+    {
+        if self.nodes.is_empty() {
+            None
+        } else {
+            Some(self.value_at(0))
+        }
+    }
+
+    // The nodes in the order of their keys.
+    pub fn nodes(&self) -> &[Node<K, V>]
+        ensures value { result.now ≡ self.now.nodes }
+        ensures inside { length self.now.nodes ≤ self.now.capacity }
+        ensures ascending { ascending K.cmp self.now.nodes ≡ true }
+    {
+        &self.nodes
+    }
+
     // The node with the least key.
     #[tactic(auto, using(crate::proofs::Ends::first_item))]
     pub fn first(&self) -> Option<&Node<K, V>>
         ensures value { option_map (λ x. x.now) result ≡ first_of self.now.nodes }
+        ensures ascending { ascending K.cmp self.now.nodes ≡ true }
     {
         self.nodes.first()
     }
@@ -111,6 +162,7 @@ impl<K: Key, V> OrderedMap<K, V> {
     #[tactic(auto, using(crate::proofs::Ends::last_item))]
     pub fn last(&self) -> Option<&Node<K, V>>
         ensures value { option_map (λ x. x.now) result ≡ last_of self.now.nodes }
+        ensures ascending { ascending K.cmp self.now.nodes ≡ true }
     {
         self.nodes.last()
     }

@@ -1,0 +1,69 @@
+-- A value that is written over where it lies. Assumes nothing.
+use Rattle.std.proofs.Common.{◌≡◌, ℕ, zero, suc, ◌<◌, ◌&&◌, Bool, true, List, [], ◌∷◌, length, get_or, set, Some, None, Ordering, refl, ap, ◌∙◌, sym, arith}
+use Rattle.std.specs.List.{slice_get}
+use Rattle.std.specs.Option.{option_map}
+use Rattle.std.specs.Ordering.{is_lt, is_eq}
+use Rattle.std.proofs.lemmas.Bool.{cond-true, cond-false}
+use Rattle.ordered.specs.declared.node.Node.{Node}
+use Rattle.ordered.specs.Order.{Total}
+use Rattle.ordered.specs.Place.{Between, At}
+use Rattle.ordered.specs.Row.{lookup, all_above, ascending, first, value_set, with_value}
+use Rattle.ordered.proofs.Found.{tail, at_between, at_equal, node_at}
+
+module _ {K V : Type 0} where
+  -- the node at a place, with another value
+  pub value_set_is : (ns : List (Node K V)) (i : ℕ) (d : Node K V) (w : V) → i < length ns → set ns i (record { key = (get_or ns i d).key; value = w }) ≡ value_set ns i w
+  unfolding value_set
+  value_set_is [] i d w h = absurd (omega arith)
+  value_set_is (n ∷ ns) zero d w h = refl
+  value_set_is (n ∷ ns) (suc i) d w h = ap (λ ms. n ∷ ms) (value_set_is ns i d w (omega arith))
+
+  -- the node that is lent, with another value
+  pub written : (ns : List (Node K V)) (i : ℕ) (n : Node K V) (w : V) → n ≡ get_or ns i n → i < length ns → set ns i (record { key = n.key; value = w }) ≡ value_set ns i w
+  written ns i n w e h = ap (λ (m : Node K V). set ns i (record { key = m.key; value = w })) e ∙ value_set_is ns i n w h
+
+  pub value_there : (ns : List (Node K V)) (i : ℕ) (d : Node K V) → i < length ns → option_map (λ (n : Node K V). n.value) (slice_get ns i) ≡ Some (get_or ns i d).value
+  value_there [] i d h = absurd (omega arith)
+  value_there (n ∷ ns) zero d h = refl
+  value_there (n ∷ ns) (suc i) d h = value_there ns i d (omega arith)
+
+module _ {K V : Type 0} (order : K → K → Ordering) where
+  above_value_set : (key : K) (ns : List (Node K V)) (i : ℕ) (w : V) → all_above order key (value_set ns i w) ≡ all_above order key ns
+  unfolding value_set all_above
+  above_value_set key [] i w = refl
+  above_value_set key (n ∷ ns) zero w = refl
+  above_value_set key (n ∷ ns) (suc i) w = ap (λ (b : Bool). is_lt (order key n.key) && b) (above_value_set key ns i w)
+
+  -- the keys stay
+  pub ascending_value_set : (ns : List (Node K V)) (i : ℕ) (w : V) → ascending order (value_set ns i w) ≡ ascending order ns
+  unfolding value_set ascending
+  ascending_value_set [] i w = refl
+  ascending_value_set (n ∷ ns) zero w = refl
+  ascending_value_set (n ∷ ns) (suc i) w = rw (above_value_set n.key ns i w, ascending_value_set ns i w) refl
+
+module _ {K V : Type 0} (order : K → K → Ordering) where
+  -- at its place or under its key
+  set_under : (ns : List (Node K V)) (key : K) (i : ℕ) (d : Node K V) (w : V) → Between order ns key i i → i < length ns → is_eq (order (get_or ns i d).key key) ≡ true → value_set ns i w ≡ with_value order ns key w
+  unfolding value_set with_value
+  set_under [] key i d w s h e = absurd (omega arith)
+  set_under (n ∷ ns) key zero d w s h e = sym (cond-true (is_eq (order n.key key)) _ _ e)
+  set_under (n ∷ ns) key (suc i) d w s h e = ap (λ ms. n ∷ ms) (set_under ns key i d w (tail order n ns key i s) (omega arith) e) ∙ sym (cond-false (is_eq (order n.key key)) _ _ (ap is_eq (s.below 0 n (omega arith))))
+
+  pub value_set_at : Total order → (ns : List (Node K V)) → ascending order ns ≡ true → (key : K) (i : ℕ) (d : Node K V) (w : V) → At order ns key i → value_set ns i w ≡ with_value order ns key w
+  value_set_at total ns up key i d w a = set_under ns key i d w (at_between order total ns up key i a) a.within (at_equal order total ns key i d a)
+
+  pub value_at : Total order → (ns : List (Node K V)) → ascending order ns ≡ true → (key : K) (i : ℕ) (v : V) → At order ns key i → option_map (λ (n : Node K V). n.value) (slice_get ns i) ≡ Some v → Some v ≡ lookup order ns key
+  value_at total ns up key i v a e =
+      let d : Node K V = record { key = key; value = v } in
+      sym e ∙ value_there ns i d a.within ∙ sym (ap (option_map (λ n. n.value)) (node_at order total ns up key i d a))
+
+module _ {K V : Type 0} where
+  pub none_first : (ns : List (Node K V)) → length ns ≡ 0 → None ≡ option_map (λ (n : Node K V). n.value) (first ns)
+  unfolding first
+  none_first [] e = refl
+  none_first (n ∷ ns) e = absurd (omega arith)
+
+  pub first_get : (ns : List (Node K V)) → first ns ≡ slice_get ns 0
+  unfolding first
+  first_get [] = refl
+  first_get (n ∷ ns) = refl
