@@ -1,18 +1,14 @@
 -- What a map ends as, where a `&mut` to a value of it is returned.
-use Rattle.std.specs.Prelude.{ℕ, Bool, List, Option}
+use Rattle.std.specs.Prelude.{ℕ, Bool, Option}
 use Rattle.std.specs.Borrow.{Lends, LendsIf, Fml, RattleType, MutBor}
 use Rattle.std.specs.declared.cmp.Ordering.{Ordering}
-use Rattle.ordered.specs.Kept.{Kept}
-use Rattle.ordered.specs.declared.node.Node.{Node}
+use Rattle.ordered.specs.Kept.{Kept, with_nodes}
 use Rattle.ordered.specs.Row.{with_value, value_set}
 use Rattle.ordered.specs.contracts.ordered_map.OrderedMap.{the_row}
 
 -- what a clause has as K.Ord
 abbrev pub OrdMembers : Type 0 → Type 0
 OrdMembers K = record { partial_cmp : K → K → Option Ordering; eq : K → K → Bool; cmp : K → K → Ordering }
-
-abbrev pub with_nodes : {K V : Type 0} → Kept K V → List (Node K V) → Kept K V
-with_nodes map nodes = record { nodes = nodes; capacity = map.capacity }
 
 module _ (K V : RattleType) (order : OrdMembers K.Denot) (m : MutBor (Kept K.Denot V.Denot)) where
   abbrev pub map_row : RattleType

@@ -1,11 +1,12 @@
-ghost use Rattle.std.specs.Prelude.{◌≡◌, ◌<◌, ◌≤◌, true, [], length, Some, IfOk, IfErr, MatchResult};
+ghost use Rattle.std.specs.Prelude.{◌≡◌, ◌<◌, [], length, Some, IfOk, IfErr, MatchResult};
 ghost use Rattle.answers.specs.Answer.{if_answered};
 ghost use Rattle.std.specs.Borrow.{sem};
 ghost use Rattle.std.specs.List.{slice_get};
 ghost use Rattle.std.specs.Option.{option_map, option_copied_mut};
+ghost use Rattle.ordered.specs.Kept.{Sound};
 ghost use Rattle.ordered.specs.Place.{At, Gap};
 ghost use Rattle.ordered.specs.Refusal.{answer, handed_back, insertion, Inserted};
-ghost use Rattle.ordered.specs.Row.{node_with, lookup, found, put, without, ascending, first as first_of, last as last_of};
+ghost use Rattle.ordered.specs.Row.{node_with, lookup, found, put, without, first as first_of, last as last_of};
 
 use crate::key::Key;
 use crate::node::Node;
@@ -24,15 +25,14 @@ pub struct OrderedMap<K: Key, V> {
 }
 
 impl<K: Key, V> Model for OrderedMap<K, V> {
-    ghost use Rattle.std.specs.Prelude.{◌≡◌, ◌≤◌, true, vec_len, vec_capacity};
-    ghost use Rattle.ordered.specs.Kept.{Kept};
-    ghost use Rattle.ordered.specs.Row.{ascending};
+    ghost use Rattle.std.specs.Prelude.{◌≤◌, vec_capacity};
+    ghost use Rattle.ordered.specs.Kept.{Kept, Sound};
 
     ghost Value = { Kept K V };
 
     ghost view = { λ m. record { nodes = m.nodes.items; capacity = m.capacity } };
 
-    ghost invariant = { λ m. (ascending K.cmp m.nodes.items ≡ true) × (vec_len m.nodes ≤ m.capacity) × (m.capacity ≤ vec_capacity m.nodes) };
+    ghost invariant = { λ m. Sound K.cmp (record { nodes = m.nodes.items; capacity = m.capacity }) × (m.capacity ≤ vec_capacity m.nodes) };
 }
 
 impl<K: Key, V> OrderedMap<K, V> {
@@ -42,6 +42,7 @@ impl<K: Key, V> OrderedMap<K, V> {
     #[tactic(auto, using(crate::proofs::Ascends::ascending_none))]
     pub fn new(heap: Global, capacity: usize) -> Result<OrderedMap<K, V>, AllocError>
         ensures made { IfOk result (λ map. (map.nodes ≡ []) × (map.capacity ≡ capacity)) }
+        ensures sound { IfOk result (λ map. Sound K.cmp map) }
     {
         let nodes = Vec::with_capacity(heap, capacity)?;
         Ok(OrderedMap { nodes, capacity })
@@ -50,8 +51,7 @@ impl<K: Key, V> OrderedMap<K, V> {
     // How many nodes the map holds.
     pub fn len(&self) -> usize
         ensures value { result ≡ length self.now.nodes }
-        ensures inside { result ≤ self.now.capacity }
-        ensures ascending { ascending K.cmp self.now.nodes ≡ true }
+        ensures sound { Sound K.cmp self.now }
     {
         self.nodes.len()
     }
@@ -59,6 +59,7 @@ impl<K: Key, V> OrderedMap<K, V> {
     // How many it has memory for.
     pub fn capacity(&self) -> usize
         ensures value { result ≡ self.now.capacity }
+        ensures sound { Sound K.cmp self.now }
     {
         self.capacity
     }
@@ -67,7 +68,7 @@ impl<K: Key, V> OrderedMap<K, V> {
     pub fn search(&self, key: &K) -> Result<usize, usize>
         ensures value { result ≡ found K.cmp self.now.nodes key.now }
         ensures places { MatchResult result (At K.cmp self.now.nodes key.now) (Gap K.cmp self.now.nodes key.now) }
-        ensures ascending { ascending K.cmp self.now.nodes ≡ true }
+        ensures sound { Sound K.cmp self.now }
     {
         search(self.nodes.as_slice(), key)
     }
@@ -75,7 +76,7 @@ impl<K: Key, V> OrderedMap<K, V> {
     // The value under the key.
     pub fn get(&self, key: &K) -> Option<&V>
         ensures value { option_map (λ x. x.now) result ≡ lookup K.cmp self.now.nodes key.now }
-        ensures ascending { ascending K.cmp self.now.nodes ≡ true }
+        ensures sound { Sound K.cmp self.now }
     {
         match search(self.nodes.as_slice(), key) {
             Ok(place) => Some(&self.nodes[place].value),
@@ -89,7 +90,7 @@ impl<K: Key, V> OrderedMap<K, V> {
         ensures hands_back { IfErr result (λ refusal. handed_back refusal ≡ node) }
         ensures nodes { self.new.nodes ≡ if_answered (insertion K.cmp self.old.capacity self.old.nodes node.key) (put K.cmp node self.old.nodes) self.old.nodes }
         ensures capacity { self.new.capacity ≡ self.old.capacity }
-        ensures ascending { ascending K.cmp self.new.nodes ≡ true }
+        ensures sound { Sound K.cmp self.new }
         ensures told { Inserted K.cmp self.old.capacity node self.old.nodes self.new.nodes result }
     {
         changes::insert(&mut self.nodes, self.capacity, node)
@@ -100,7 +101,7 @@ impl<K: Key, V> OrderedMap<K, V> {
         ensures value { result ≡ node_with K.cmp self.old.nodes key.now }
         ensures nodes { self.new.nodes ≡ without K.cmp self.old.nodes key.now }
         ensures capacity { self.new.capacity ≡ self.old.capacity }
-        ensures ascending { ascending K.cmp self.new.nodes ≡ true }
+        ensures sound { Sound K.cmp self.new }
     {
         changes::remove(&mut self.nodes, key)
     }
@@ -119,7 +120,7 @@ impl<K: Key, V> OrderedMap<K, V> {
     pub fn get_mut(&mut self, key: &K) -> Option<&mut V>
         ensures* writes_back { sem 𝓛 (lends_under K.row V.row K.Ord self.entry key.now result) }
         ensures value { option_copied_mut result ≡ lookup K.cmp self.old.nodes key.now }
-        ensures ascending { ascending K.cmp self.old.nodes ≡ true }
+        ensures sound { Sound K.cmp self.old }
     {
         match self.search(key) {
             Ok(place) => Some(self.value_at(place)),
@@ -131,7 +132,7 @@ impl<K: Key, V> OrderedMap<K, V> {
     pub fn first_mut(&mut self) -> Option<&mut V>
         ensures* writes_back { sem 𝓛 (lends_first K.row V.row K.Ord self.entry result) }
         ensures value { option_copied_mut result ≡ option_map (λ n. n.value) (first_of self.old.nodes) }
-        ensures ascending { ascending K.cmp self.old.nodes ≡ true }
+        ensures sound { Sound K.cmp self.old }
     {
         if self.nodes.is_empty() {
             None
@@ -143,8 +144,7 @@ impl<K: Key, V> OrderedMap<K, V> {
     // The nodes in the order of their keys.
     pub fn nodes(&self) -> &[Node<K, V>]
         ensures value { result.now ≡ self.now.nodes }
-        ensures inside { length self.now.nodes ≤ self.now.capacity }
-        ensures ascending { ascending K.cmp self.now.nodes ≡ true }
+        ensures sound { Sound K.cmp self.now }
     {
         &self.nodes
     }
@@ -153,7 +153,7 @@ impl<K: Key, V> OrderedMap<K, V> {
     #[tactic(auto, using(crate::proofs::Ends::first_item))]
     pub fn first(&self) -> Option<&Node<K, V>>
         ensures value { option_map (λ x. x.now) result ≡ first_of self.now.nodes }
-        ensures ascending { ascending K.cmp self.now.nodes ≡ true }
+        ensures sound { Sound K.cmp self.now }
     {
         self.nodes.first()
     }
@@ -162,7 +162,7 @@ impl<K: Key, V> OrderedMap<K, V> {
     #[tactic(auto, using(crate::proofs::Ends::last_item))]
     pub fn last(&self) -> Option<&Node<K, V>>
         ensures value { option_map (λ x. x.now) result ≡ last_of self.now.nodes }
-        ensures ascending { ascending K.cmp self.now.nodes ≡ true }
+        ensures sound { Sound K.cmp self.now }
     {
         self.nodes.last()
     }
@@ -174,7 +174,7 @@ impl<K: Key + Drop, V: Drop> OrderedMap<K, V> {
     pub fn clear(&mut self)
         ensures nodes { self.new.nodes ≡ [] }
         ensures capacity { self.new.capacity ≡ self.old.capacity }
-        ensures ascending { ascending K.cmp self.new.nodes ≡ true }
+        ensures sound { Sound K.cmp self.new }
     {
         self.nodes.clear();
     }
