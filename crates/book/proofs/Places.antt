@@ -1,70 +1,20 @@
 -- Places of orders: how often an order stands in queues and levels, and what a map of places tells of it.
 use Rattle.std.proofs.Common.{◌≡◌, ℕ, ◌+◌, ◌<◌, ◌≤◌, Bool, true, false, cond, ◌&&◌, eqb, ◌⊎◌, List, length, is_some, Some, None, Option, Ordering, Less, Equal, Greater, sym, refl, ap, ◌∙◌, inl, inr, arith}
 use Rattle.std.specs.Option.{option_map}
-use Rattle.std.specs.Ordering.{ordering_then, ordering_reverse}
 use Rattle.std.proofs.lemmas.Bool.{and_parts, and_from, eqb-true, eq-eqb, true≢false}
-use Rattle.std.proofs.lemmas.Bool.Decides.{nat_tests}
 use Rattle.fix.specs.declared.command.Side.{Side}
 use Rattle.fix.specs.declared.command.Side.TheVariants.{Buy, Sell}
-use Rattle.ordered.specs.Order.{Total, by_number, by_order_id}
+use Rattle.ordered.specs.Order.{by_order_id}
 use Rattle.ordered.specs.Row.{node_with, put, without, ascending}
 use Rattle.ordered.specs.declared.key.order_id.OrderId.{OrderId}
 use Rattle.ordered.specs.declared.node.Node.{Node}
 use Rattle.ordered.proofs.Lookups.{node_put_same, node_put_other, node_without_same, node_without_other, length_without}
-use Rattle.ordered.proofs.Orders.{ne_from}
+use Rattle.ordered.proofs.Orders.{order_id_total, ne_from}
 use Rattle.market.specs.declared.resting.Resting.{Resting}
 use Rattle.market.specs.Market.{is_of, other}
 use Rattle.market.specs.Tally.{same_side}
 use Rattle.book.specs.declared.place.Place.{Place}
 use Rattle.book.specs.Place.{place_of, told}
-
--- ---- the order of the names of orders
-
-number_itself : (a : ℕ) → by_number a a ≡ Equal
-number_itself a = grind (arith, nat_tests)
-
-number_same : (a b : ℕ) → by_number a b ≡ Equal → a ≡ b
-number_same a b e = grind (arith, nat_tests)
-
-number_turned : (a b : ℕ) → by_number b a ≡ ordering_reverse (by_number a b)
-number_turned a b = grind (arith, nat_tests)
-
-number_through : (a b c : ℕ) → by_number a b ≡ Less → by_number b c ≡ Less → by_number a c ≡ Less
-number_through a b c p q = grind (arith, nat_tests)
-
-then_equal : (a b : Ordering) → ordering_then a b ≡ Equal → (a ≡ Equal) × (b ≡ Equal)
-then_equal Less b e = absurd (let z : ◌≡◌ {A = ℕ} 0 1 = cc in omega arith)
-then_equal Equal b e = (refl, e)
-then_equal Greater b e = absurd (let z : ◌≡◌ {A = ℕ} 0 1 = cc in omega arith)
-
-then_turned : (a b : Ordering) → ordering_then (ordering_reverse a) (ordering_reverse b) ≡ ordering_reverse (ordering_then a b)
-then_turned Less b = refl
-then_turned Equal b = refl
-then_turned Greater b = refl
-
-then_less : (a b : Ordering) → ordering_then a b ≡ Less → (a ≡ Less) ⊎ ((a ≡ Equal) × (b ≡ Less))
-then_less Less b e = inl refl
-then_less Equal b e = inr (refl, e)
-then_less Greater b e = absurd (let z : ◌≡◌ {A = ℕ} 0 1 = cc in omega arith)
-
-pub order_id_total : Total by_order_id
-order_id_total = record {
-  itself = λ a. ap (λ o. ordering_then o (by_number a.order a.order)) (number_itself a.member) ∙ number_itself a.order;
-  same = λ a b e.
-      let both = then_equal (by_number a.member b.member) (by_number a.order b.order) e in
-      named a b (number_same a.member b.member both.0) (number_same a.order b.order both.1);
-  turned = λ a b.
-      ap (λ o. ordering_then o (by_number b.order a.order)) (number_turned a.member b.member)
-      ∙ ap (ordering_then (ordering_reverse (by_number a.member b.member))) (number_turned a.order b.order)
-      ∙ then_turned (by_number a.member b.member) (by_number a.order b.order);
-  transitive = through;
-}
-  where
-    named : (a b : OrderId) → a.member ≡ b.member → a.order ≡ b.order → a ≡ b
-    named a b m o = let made : ℕ → ℕ → OrderId = λ x y. record { order = y; member = x } in ap (λ x. made x a.order) m ∙ ap (made b.member) o
-
-    through : (a b c : OrderId) → by_order_id a b ≡ Less → by_order_id b c ≡ Less → by_order_id a c ≡ Less
-    through a b c p q = grind (arith, nat_tests)
 
 -- ---- an order by its name
 

@@ -10,7 +10,7 @@ use crate::book::Book;
 use fix::Side;
 use level::{MOST_ORDERS, Scratch};
 use market::Resting;
-use ordered::OrderMap;
+use ordered::OrderedMap;
 use side::BookSide;
 use std::alloc::{AllocError, Global};
 
@@ -21,7 +21,7 @@ impl Book {
     {
         let buys = BookSide::new(heap, Side::Buy)?;
         let sells = BookSide::new(heap, Side::Sell)?;
-        let places = OrderMap::new(heap, MOST_ORDERS)?;
+        let places = OrderedMap::new(heap, MOST_ORDERS)?;
         let scratch = Scratch::new(heap)?;
         Ok(Book {
             buys,

@@ -2,7 +2,8 @@
 ghost use Rattle.std.specs.Prelude.{◌≡◌, ℕ, ◌<◌, ◌≤◌, true, length, Some, None, ◌≢◌};
 ghost use Rattle.allocation.specs.Range.{tradable};
 ghost use Rattle.fix.specs.Command.{order_figures};
-ghost use Rattle.ordered.specs.Map.{nodes_by_order, room_by_order};
+ghost use Rattle.ordered.specs.Kept.{Sound};
+ghost use Rattle.ordered.specs.Order.{by_order_id};
 ghost use Rattle.market.specs.Market.{resting, in_levels, other as opposite};
 ghost use Rattle.market.specs.Put.{joins, out_of_levels};
 ghost use Rattle.side.specs.Levels.{side_of, levels_of};
@@ -17,25 +18,27 @@ use allocation::Policy;
 use fix::NewOrder;
 use level::{Progress, Scratch};
 use market::{Entry, Resting, other};
-use ordered::{Node, OrderId, OrderMap};
+use ordered::{Node, OrderId, OrderedMap};
 use side::BookSide;
 
 /// The incoming order meets the other side, and the places of the orders that it fills whole are taken out. One entry is written before.
 pub(crate) fn meet<P: Policy>(
     theirs: &mut BookSide,
-    places: &mut OrderMap<Place>,
+    places: &mut OrderedMap<OrderId, Place>,
     scratch: &mut Scratch,
     policy: &P,
     order: &NewOrder,
     list: &mut [Entry],
 ) -> Progress
     requires side { side_of theirs.old ≡ opposite order.now.side }
-    requires placed { Placed (opposite order.now.side) (levels_of theirs.old) (nodes_by_order places.old) }
+    requires placed { Placed (opposite order.now.side) (levels_of theirs.old) places.old.nodes }
+    requires sound { Sound by_order_id places.old }
     requires long { 2049 ≤ length list.old }
     ensures meets { Meets (P.Policy.split policy.now) (order_figures order.now) (levels_of theirs.old) (levels_of theirs.new) list.old list.new 1 result }
-    ensures together { Together (opposite order.now.side) (levels_of theirs.old) (levels_of theirs.new) (nodes_by_order places.old) (nodes_by_order places.new) }
+    ensures together { Together (opposite order.now.side) (levels_of theirs.old) (levels_of theirs.new) places.old.nodes places.new.nodes }
     ensures side { side_of theirs.new ≡ side_of theirs.old }
-    ensures room { room_by_order places.new ≡ room_by_order places.old }
+    ensures room { places.new.capacity ≡ places.old.capacity }
+    ensures sound { Sound by_order_id places.new }
 {
     match theirs.meet(policy, scratch, order, 1, list) {
         Ok(after) => {
@@ -48,19 +51,20 @@ pub(crate) fn meet<P: Policy>(
 }
 
 /// An order comes to rest.
-pub(crate) fn rest(mine: &mut BookSide, places: &mut OrderMap<Place>, place: Place, order: Resting)
+pub(crate) fn rest(mine: &mut BookSide, places: &mut OrderedMap<OrderId, Place>, place: Place, order: Resting)
     requires side { side_of mine.old ≡ place.side }
-    requires placed { Placed place.side (levels_of mine.old) (nodes_by_order places.old) }
-    requires new { place_of (nodes_by_order places.old) (record { order = order.order; member = order.member }) ≡ None }
-    requires short { length (nodes_by_order places.old) < 1024 }
-    requires fewer { resting (levels_of mine.old) ≤ length (nodes_by_order places.old) }
-    requires room { room_by_order places.old ≡ 1024 }
+    requires placed { Placed place.side (levels_of mine.old) places.old.nodes }
+    requires new { place_of places.old.nodes (record { order = order.order; member = order.member }) ≡ None }
+    requires short { length places.old.nodes < 1024 }
+    requires fewer { resting (levels_of mine.old) ≤ length places.old.nodes }
+    requires room { places.old.capacity ≡ 1024 }
     requires price { in_range place.price ≡ true }
     requires lots { tradable order.lots ≡ true }
     ensures levels { levels_of mine.new ≡ joins place.side place.price order (levels_of mine.old) }
-    ensures together { Together place.side (levels_of mine.old) (levels_of mine.new) (nodes_by_order places.old) (nodes_by_order places.new) }
+    ensures together { Together place.side (levels_of mine.old) (levels_of mine.new) places.old.nodes places.new.nodes }
     ensures side { side_of mine.new ≡ side_of mine.old }
-    ensures room { room_by_order places.new ≡ room_by_order places.old }
+    ensures room { places.new.capacity ≡ places.old.capacity }
+    ensures sound { Sound by_order_id places.new }
 {
     match mine.join(place.price, order) {
         Ok(()) => {}

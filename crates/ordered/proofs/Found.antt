@@ -12,7 +12,7 @@ use Rattle.ordered.proofs.Orders.{equal_from, greater_from}
 use Rattle.ordered.proofs.Between.{ascends}
 
 module _ {K V : Type 0} (order : K → K → Ordering) where
-  tail : (n : Node K V) (ns : List (Node K V)) (key : K) (i : ℕ) → Between order (n ∷ ns) key (suc i) (suc i) → Between order ns key i i
+  pub tail : (n : Node K V) (ns : List (Node K V)) (key : K) (i : ℕ) → Between order (n ∷ ns) key (suc i) (suc i) → Between order ns key i i
   tail n ns key i s = record {
     within = omega (arith, s.within);
     below = λ j d b. s.below (suc j) d (suc-le-suc b);
@@ -113,7 +113,7 @@ module _ {K V : Type 0} (order : K → K → Ordering) where
   -- ---- what the search's answer says of the row
 
 module _ {K V : Type 0} (order : K → K → Ordering) (total : Total order) (ns : List (Node K V)) where
-  at_between : ascending order ns ≡ true → (key : K) (i : ℕ) → At order ns key i → Between order ns key i i
+  pub at_between : ascending order ns ≡ true → (key : K) (i : ℕ) → At order ns key i → Between order ns key i i
   at_between up key i a = record {
     within = omega (arith, a.within);
     below = λ j d b. subst (λ k. order (get_or ns j d).key k ≡ Less) (a.is d) (ascends order ns up j i d b a.within);
@@ -123,7 +123,7 @@ module _ {K V : Type 0} (order : K → K → Ordering) (total : Total order) (ns
         (cases_lt i j);
   }
 
-  at_equal : (key : K) (i : ℕ) (d : Node K V) → At order ns key i → is_eq (order (get_or ns i d).key key) ≡ true
+  pub at_equal : (key : K) (i : ℕ) (d : Node K V) → At order ns key i → is_eq (order (get_or ns i d).key key) ≡ true
   at_equal key i d a = ap is_eq (ap (λ k. order k key) (a.is d) ∙ total.itself key)
 
   pub node_at : ascending order ns ≡ true → (key : K) (i : ℕ) (d : Node K V) → At order ns key i → node_with order ns key ≡ Some (get_or ns i d)

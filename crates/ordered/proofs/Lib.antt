@@ -5,3 +5,4 @@ pub mod Ascends
 pub mod Lookups
 pub mod Ends
 pub mod Insertions
+pub mod Values

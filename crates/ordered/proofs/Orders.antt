@@ -1,8 +1,20 @@
 -- What a total order gives. Assumes nothing.
-use Rattle.std.proofs.Common.{◌≡◌, true, false, Ordering, Less, Equal, Greater, sym, refl, ap, ◌∙◌, ⊎_elim}
+use Rattle.std.proofs.Common.{◌≡◌, true, false, Ordering, Less, Equal, Greater, sym, refl, ap, ◌∙◌, ⊎_elim, rules}
 use Rattle.std.specs.Ordering.{ordering_reverse, is_lt, is_eq}
+use Rattle.std.specs.Cmp.{IsTotalOrder, tied_itself}
+use Rattle.std.specs.Cmp.Rules.{comparing}
 use Rattle.std.proofs.lemmas.Bool.{cases_Bool, false≢true}
-use Rattle.ordered.specs.Order.{Total}
+use Rattle.ordered.specs.Order.{Total, by_price, by_order_id}
+
+-- the laws of a kind of key
+pub total_from : {K : Type 0} {order : K → K → Ordering} → IsTotalOrder order → ((a b : K) → order a b ≡ Equal → a ≡ b) → Total order
+total_from o same = record { itself = tied_itself o; same = same; turned = λ a b. o.antisymm b a; transitive = o.trans }
+
+pub price_total : Total by_price
+price_total = total_from (search (comparing, rules)) (λ a b e. search (comparing, rules))
+
+pub order_id_total : Total by_order_id
+order_id_total = total_from (search (comparing, rules)) (λ a b e. search (comparing, rules))
 
 pub less_from : (o : Ordering) → is_lt o ≡ true → o ≡ Less
 less_from Less e = refl

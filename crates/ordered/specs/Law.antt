@@ -5,7 +5,7 @@ use Rattle.std.specs.declared.cmp.Ordering.{Ordering}
 use Rattle.answers.specs.Answer.{answered, refused}
 use Rattle.ordered.specs.declared.node.Node.{Node}
 use Rattle.ordered.specs.Refusal.{insertion}
-use Rattle.ordered.specs.Row.{node_with, lookup, put, without, ascending, first, last}
+use Rattle.ordered.specs.Row.{node_with, lookup, put, without, with_value, value_set, ascending, first, last}
 
 module _ {K : Type 0} (V : Type 0) (order : K → K → Ordering) where
   -- what is looked up after each change
@@ -34,6 +34,18 @@ module _ {K : Type 0} (V : Type 0) (order : K → K → Ordering) where
     pub put_in : (nodes : List (Node K V)) (node : Node K V) → length (put order node nodes) ≡ length nodes + 1
     pub taken_out : (nodes : List (Node K V)) (key : K) → is_some (node_with order nodes key) ≡ true → length (without order nodes key) + 1 ≡ length nodes
     pub not_there : (nodes : List (Node K V)) (key : K) → node_with order nodes key ≡ None → without order nodes key ≡ nodes
+
+  -- a value that is written over where it lies
+  pub record Writes : Type 0 where
+    -- it stands under its key, and under every other key what stood there
+    pub same : (nodes : List (Node K V)) (key : K) (value : V) → is_some (node_with order nodes key) ≡ true → lookup order (with_value order nodes key value) key ≡ Some value
+    pub other : (nodes : List (Node K V)) (key other : K) (value : V) → (other ≢ key) → lookup order (with_value order nodes key value) other ≡ lookup order nodes other
+    pub not_there : (nodes : List (Node K V)) (key : K) (value : V) → node_with order nodes key ≡ None → with_value order nodes key value ≡ nodes
+    -- the keys stay
+    pub ascends : (nodes : List (Node K V)) (key : K) (value : V) → ascending order (with_value order nodes key value) ≡ ascending order nodes
+    pub count : (nodes : List (Node K V)) (key : K) (value : V) → length (with_value order nodes key value) ≡ length nodes
+    -- the first place is that of the first key
+    pub first_is : (nodes : List (Node K V)) (node : Node K V) (value : V) → first nodes ≡ Some node → value_set nodes 0 value ≡ with_value order nodes node.key value
 
   -- which insertions are refused
   pub record Insertions : Type 0 where

@@ -2,5 +2,6 @@ pub mod Order
 pub mod Row
 pub mod Place
 pub mod Refusal
-pub mod Map
+pub mod Kept
+pub mod Lent
 pub mod Law

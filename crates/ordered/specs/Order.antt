@@ -1,8 +1,8 @@
 -- Total orders, and those of the two kinds of keys.
-use Rattle.std.specs.Prelude.{◌≡◌, ℕ, cond, nat_lt}
+use Rattle.std.specs.Prelude.{◌≡◌}
 use Rattle.std.specs.declared.cmp.Ordering.TheVariants.{Less, Equal, Greater}
 use Rattle.std.specs.declared.cmp.Ordering.{Ordering}
-use Rattle.std.specs.Ordering.{ordering_then, ordering_reverse}
+use Rattle.std.specs.Ordering.{ordering_reverse, nat_cmp, on, then_cmp}
 use Rattle.ordered.specs.declared.key.price.Price.{Price}
 use Rattle.ordered.specs.declared.key.order_id.OrderId.{OrderId}
 
@@ -13,12 +13,9 @@ pub record Total {K : Type 0} (order : K → K → Ordering) : Type 0 where
   pub turned : (a b : K) → order b a ≡ ordering_reverse (order a b)
   pub transitive : (a b c : K) → order a b ≡ Less → order b c ≡ Less → order a c ≡ Less
 
-abbrev pub by_number : ℕ → ℕ → Ordering
-by_number m n = cond (nat_lt m n) Less (cond (nat_lt n m) Greater Equal)
-
 abbrev pub by_price : Price → Price → Ordering
-by_price a b = by_number a.0 b.0
+by_price = on (λ p. p.0) nat_cmp
 
 -- by member, and among the orders of one member by order number
 abbrev pub by_order_id : OrderId → OrderId → Ordering
-by_order_id a b = ordering_then (by_number a.member b.member) (by_number a.order b.order)
+by_order_id = then_cmp (on (λ id. id.member) nat_cmp) (on (λ id. id.order) nat_cmp)

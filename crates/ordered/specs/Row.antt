@@ -1,5 +1,5 @@
 -- A map as a row of nodes in the order of their keys, no key twice.
-use Rattle.std.specs.Prelude.{ℕ, suc, Bool, true, cond, ◌&&◌, List, [], ◌∷◌, is_some, Some, None, Ok, Err, Option, Result}
+use Rattle.std.specs.Prelude.{ℕ, zero, suc, Bool, true, cond, ◌&&◌, List, [], ◌∷◌, is_some, Some, None, Ok, Err, Option, Result}
 use Rattle.std.specs.declared.cmp.Ordering.{Ordering}
 use Rattle.std.specs.Option.{option_map}
 use Rattle.std.specs.Ordering.{is_lt, is_eq}
@@ -34,6 +34,11 @@ module _ {K V : Type 0} (order : K → K → Ordering) where
   without [] key = []
   without (n ∷ ns) key = cond (is_eq (order n.key key)) ns (n ∷ without ns key)
 
+  -- the value under a key written over
+  unfoldable pub with_value : List (Node K V) → K → V → List (Node K V)
+  with_value [] key value = []
+  with_value (n ∷ ns) key value = cond (is_eq (order n.key key)) (record { key = n.key; value = value } ∷ ns) (n ∷ with_value ns key value)
+
   unfoldable pub all_above : K → List (Node K V) → Bool
   all_above key [] = true
   all_above key (n ∷ ns) = is_lt (order key n.key) && all_above key ns
@@ -52,3 +57,9 @@ unfoldable pub last : {K V : Type 0} → List (Node K V) → Option (Node K V)
 last [] = None
 last (n ∷ []) = Some n
 last (n ∷ m ∷ ms) = last (m ∷ ms)
+
+-- the value of the node at a place written over
+unfoldable pub value_set : {K V : Type 0} → List (Node K V) → ℕ → V → List (Node K V)
+value_set [] i value = []
+value_set (n ∷ ns) zero value = record { key = n.key; value = value } ∷ ns
+value_set (n ∷ ns) (suc i) value = n ∷ value_set ns i value

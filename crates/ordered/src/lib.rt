@@ -5,12 +5,10 @@
 mod key;
 // a key with its value
 mod node;
-// the row of nodes that every map is
+// the steps below the map
 mod row;
-// the map by price
-mod price_map;
-// the map by member and order number
-mod order_map;
+// the map
+mod ordered_map;
 // why a node is not put in
 mod refusal;
 // what users may rely on
@@ -21,8 +19,7 @@ pub use key::order_id::OrderId;
 pub use key::price::Price;
 pub use laws::laws_hold;
 pub use node::Node;
-pub use order_map::OrderMap;
-pub use price_map::PriceMap;
+pub use ordered_map::OrderedMap;
 pub use refusal::InsertRefusal;
 pub use row::changes::{insert, remove};
 pub use row::search::search;

@@ -1,12 +1,12 @@
 -- The row of nodes as levels: what stands in it, and in which order. Assumes nothing.
 use Rattle.std.proofs.Common.{◌≡◌, ℕ, zero, suc, ◌<◌, ◌≤◌, true, eqb, ltb, leb, List, [], ◌∷◌, length, get_or, set, Ordering, Less, Equal, refl, ap, ◌∙◌, arith}
 use Rattle.std.specs.List.{remove}
-use Rattle.std.specs.Ordering.{is_lt, is_eq}
+use Rattle.std.specs.Ordering.{is_lt, is_eq, nat_cmp}
 use Rattle.std.proofs.lemmas.Bool.{and_parts, and_from, lt-ltb, ltb-true, le-leb, leb-true}
 use Rattle.std.proofs.lemmas.Bool.Decides.{nat_tests}
 use Rattle.ordered.specs.declared.node.Node.{Node}
 use Rattle.ordered.specs.declared.key.price.Price.{Price}
-use Rattle.ordered.specs.Order.{Total, by_number, by_price}
+use Rattle.ordered.specs.Order.{by_price}
 use Rattle.ordered.specs.Row.{all_above, ascending}
 use Rattle.ordered.proofs.Ascends.{above_parts, above_from, ascending_parts, ascending_from}
 use Rattle.ordered.proofs.Between.{ascends}
@@ -78,28 +78,14 @@ removed_set (x ∷ xs) (suc i) m = ap (λ ys. x ∷ ys) (removed_set xs i m)
 
 -- ---- the order of the ranks
 
-pub below_from : (a b : ℕ) → by_number a b ≡ Less → a < b
+pub below_from : (a b : ℕ) → nat_cmp a b ≡ Less → a < b
 below_from a b e = grind (arith, nat_tests)
 
-pub less_is : (a b : ℕ) → is_lt (by_number a b) ≡ ltb a b
+pub less_is : (a b : ℕ) → is_lt (nat_cmp a b) ≡ ltb a b
 less_is a b = grind (arith, nat_tests)
 
-pub same_is : (a b : ℕ) → is_eq (by_number a b) ≡ eqb a b
+pub same_is : (a b : ℕ) → is_eq (nat_cmp a b) ≡ eqb a b
 same_is a b = grind (arith, nat_tests)
-
-pub price_total : Total by_price
-price_total = record {
-  itself = λ a. grind (arith, nat_tests);
-  same = λ a b e. same_price a b (same_number a.0 b.0 e);
-  turned = λ a b. grind (arith, nat_tests);
-  transitive = λ a b c p q. grind (arith, nat_tests);
-}
-  where
-    same_number : (a b : ℕ) → by_number a b ≡ Equal → a ≡ b
-    same_number a b e = grind (arith, nat_tests)
-
-    same_price : (a b : Price) → a.0 ≡ b.0 → a ≡ b
-    same_price a b e = let priced : ℕ → Price = λ n. record { 0 = n } in ap priced e
 
 module _ {K V : Type 0} (order : K → K → Ordering) (m : Node K V) where
   above_set : (key : K) (ns : List (Node K V)) (i : ℕ) → ((d : Node K V) → m.key ≡ (get_or ns i d).key) → all_above order key ns ≡ true → all_above order key (set ns i m) ≡ true

@@ -1,6 +1,9 @@
 ghost use Rattle.std.specs.Prelude.{◌≡◌, ◌+◌, ◌*◌, ◌^◌, ◌<◌};
 ghost use Rattle.ordered.specs.Order.{by_order_id};
 ghost use Rattle.std.proofs.Common.{rules};
+ghost use Rattle.std.specs.Cmp.{partial_order_from_own_ties};
+ghost use Rattle.std.specs.Cmp.Rules.{comparing};
+ghost use Rattle.std.specs.Ordering.{as_partial_cmp};
 
 use crate::key::Key;
 use std::cmp::Ordering;
@@ -23,26 +26,31 @@ impl OrderId {
     }
 }
 
-impl Key for OrderId {
-    ghost order = { by_order_id };
+// By member, and among the orders of one member by order number. Not derived, since the fields stand the other way round.
+impl Ord for OrderId {
+    ghost cmp = { by_order_id };
 
-    ghost itself = { Prim.search rules };
+    ghost total = { Prim.search (comparing, rules) };
 
-    ghost same = { Prim.search rules };
+    ghost matches_partial_cmp = { Prim.search (comparing, rules) };
 
-    ghost turned = { Prim.search rules };
+    ghost matches_eq = { Prim.search (comparing, rules) };
 
-    ghost transitive = { Prim.search rules };
-
-    fn compare(&self, other: &OrderId) -> Ordering {
-        let mine = self.as_number();
-        let theirs = other.as_number();
-        if mine < theirs {
-            Ordering::Less
-        } else if mine > theirs {
-            Ordering::Greater
-        } else {
-            Ordering::Equal
-        }
+    fn cmp(&self, other: &OrderId) -> Ordering {
+        self.as_number().cmp(&other.as_number())
     }
+}
+
+impl PartialOrd for OrderId {
+    ghost partial_cmp = { as_partial_cmp by_order_id };
+
+    ghost laws = { partial_order_from_own_ties (Prim.search (comparing, rules)) (Prim.search (comparing, rules)) };
+
+    fn partial_cmp(&self, other: &OrderId) -> Option<Ordering> {
+        Some(self.cmp(other))
+    }
+}
+
+impl Key for OrderId {
+    ghost same = { Prim.search (comparing, rules) };
 }

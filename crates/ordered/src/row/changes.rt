@@ -18,16 +18,16 @@ pub fn insert<K: Key, V>(
     capacity: usize,
     node: Node<K, V>,
 ) -> Result<(), InsertRefusal<K, V>>
-    requires ascending { ascending K.Key.order nodes.old.items ≡ true }
+    requires ascending { ascending K.cmp nodes.old.items ≡ true }
     requires inside { vec_len nodes.old ≤ capacity }
     requires reserved { capacity ≤ vec_capacity nodes.old }
-    ensures answers { answer result ≡ insertion K.Key.order capacity nodes.old.items node.key }
+    ensures answers { answer result ≡ insertion K.cmp capacity nodes.old.items node.key }
     ensures hands_back { IfErr result (λ refusal. handed_back refusal ≡ node) }
-    ensures nodes { nodes.new.items ≡ if_answered (insertion K.Key.order capacity nodes.old.items node.key) (put K.Key.order node nodes.old.items) nodes.old.items }
+    ensures nodes { nodes.new.items ≡ if_answered (insertion K.cmp capacity nodes.old.items node.key) (put K.cmp node nodes.old.items) nodes.old.items }
     ensures inside { vec_len nodes.new ≤ capacity }
     ensures memory { vec_capacity nodes.new ≡ vec_capacity nodes.old }
-    ensures ascending { ascending K.Key.order nodes.new.items ≡ true }
-    ensures told { Inserted K.Key.order capacity node nodes.old.items nodes.new.items result }
+    ensures ascending { ascending K.cmp nodes.new.items ≡ true }
+    ensures told { Inserted K.cmp capacity node nodes.old.items nodes.new.items result }
 {
     match search(nodes.as_slice(), &node.key) {
         Ok(_) => Err(InsertRefusal::KeyIsThere(node)),
@@ -62,12 +62,12 @@ fn insert_at<K, V>(
 
 /// Takes out the node with the key.
 pub fn remove<K: Key, V>(nodes: &mut Vec<Node<K, V>>, key: &K) -> Option<Node<K, V>>
-    requires ascending { ascending K.Key.order nodes.old.items ≡ true }
-    ensures value { result ≡ node_with K.Key.order nodes.old.items key.now }
-    ensures nodes { nodes.new.items ≡ without K.Key.order nodes.old.items key.now }
+    requires ascending { ascending K.cmp nodes.old.items ≡ true }
+    ensures value { result ≡ node_with K.cmp nodes.old.items key.now }
+    ensures nodes { nodes.new.items ≡ without K.cmp nodes.old.items key.now }
     ensures fewer { vec_len nodes.new ≤ vec_len nodes.old }
     ensures memory { vec_capacity nodes.new ≡ vec_capacity nodes.old }
-    ensures ascending { ascending K.Key.order nodes.new.items ≡ true }
+    ensures ascending { ascending K.cmp nodes.new.items ≡ true }
 {
     match search(nodes.as_slice(), key) {
         Ok(place) => Some(nodes.remove(place)),

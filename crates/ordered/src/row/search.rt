@@ -17,12 +17,12 @@ const WORD_BITS: u32 = 64;
 
 // Where the key stands, or, as an error, where it would go.
 pub fn search<K: Key, V>(nodes: &[Node<K, V>], key: &K) -> Result<usize, usize>
-    requires ascending { ascending K.Key.order nodes.now ≡ true }
-    ensures value { result ≡ found K.Key.order nodes.now key.now }
-    ensures places { MatchResult result (At K.Key.order nodes.now key.now) (Gap K.Key.order nodes.now key.now) }
+    requires ascending { ascending K.cmp nodes.now ≡ true }
+    ensures value { result ≡ found K.cmp nodes.now key.now }
+    ensures places { MatchResult result (At K.cmp nodes.now key.now) (Gap K.cmp nodes.now key.now) }
 {
     let place = place_of(nodes, key);
-    if place < nodes.len() && nodes[place].key.compare(key).is_eq() {
+    if place < nodes.len() && nodes[place].key.cmp(key).is_eq() {
         Ok(place)
     } else {
         Err(place)
@@ -31,8 +31,8 @@ pub fn search<K: Key, V>(nodes: &[Node<K, V>], key: &K) -> Result<usize, usize>
 
 // How many keys are less.
 fn place_of<K: Key, V>(nodes: &[Node<K, V>], key: &K) -> usize
-    requires ascending { ascending K.Key.order nodes.now ≡ true }
-    ensures less { Between K.Key.order nodes.now key.now result result }
+    requires ascending { ascending K.cmp nodes.now ≡ true }
+    ensures less { Between K.cmp nodes.now key.now result result }
 {
     if nodes.len() < SHORT {
         count_less(nodes, key, SHORT_BITS)
@@ -43,16 +43,16 @@ fn place_of<K: Key, V>(nodes: &[Node<K, V>], key: &K) -> usize
 
 // How many keys are less, in a row of fewer than 2^bits nodes: one step for each bit of the answer.
 fn count_less<K: Key, V>(nodes: &[Node<K, V>], key: &K, bits: u32) -> usize
-    requires ascending { ascending K.Key.order nodes.now ≡ true }
+    requires ascending { ascending K.cmp nodes.now ≡ true }
     requires word { bits ≤ 64 }
     requires short { length nodes.now < 2 ^ bits }
-    ensures less { Between K.Key.order nodes.now key.now result result }
+    ensures less { Between K.cmp nodes.now key.now result result }
 {
     let mut low = 0;
     for bit in (0..bits).rev() {
         let step = 1 << bit;
         if step <= nodes.len() - low {
-            let less = nodes[low + step - 1].key.compare(key).is_lt();
+            let less = nodes[low + step - 1].key.cmp(key).is_lt();
             // a sum in place of a branch, which no processor could foresee
             low += (less as usize) << bit;
         }

@@ -1,8 +1,8 @@
-use Rattle.std.proofs.Common.{◌≡◌, ℕ, ◌+◌, ◌<◌, cond, List, length, get_or, drop, sym, ap, ◌∙◌}
+use Rattle.std.proofs.Common.{◌≡◌, ℕ, ◌+◌, ◌<◌, cond, List, length, get_or, drop, sym, ap, ◌∙◌, subst}
 use Rattle.std.proofs.lemmas.List.{at_drop_more, at_drop_all}
 use Rattle.std.proofs.lemmas.Bool.{cond-true, cond-false}
 use Rattle.fix.specs.declared.command.Side.{Side}
-use Rattle.ordered.specs.Map.{nodes_by_order, room_by_order}
+use Rattle.ordered.specs.Kept.{Sound}
 use Rattle.ordered.specs.Order.{by_order_id}
 use Rattle.ordered.specs.Row.{without}
 use Rattle.ordered.specs.declared.key.order_id.OrderId.{OrderId}
@@ -21,17 +21,18 @@ pub loop-entry-preserved : goal.loop-entry-preserved
 loop-entry-preserved c =
     let lp = c.loop-entry in
     let es = c.args.entries.now in
-    let ns = nodes_by_order lp.places in
+    let ns = lp.places.nodes in
     let h = c.loop-entry-test.true in
     elim c.if-filled_whole.branch [
-      | then-filled_whole w ↦ (next c.args.side es lp.entry-index _ ns (nodes_by_order c.if-filled_whole.places) _ h (ap nodes_by_order w.places-is ∙ w.remove.ensures.nodes ∙ sym (cond-true _ _ _ (sym w.if-filled_whole.ensures.value))) lp.invariant.0, ap room_by_order w.places-is ∙ w.remove.ensures.capacity ∙ lp.invariant.1)
-      | else-filled_whole w ↦ (next c.args.side es lp.entry-index _ ns (nodes_by_order c.if-filled_whole.places) _ h (ap nodes_by_order w.places-is ∙ sym (cond-false _ _ _ (sym w.if-filled_whole.ensures.value))) lp.invariant.0, ap room_by_order w.places-is ∙ lp.invariant.1)
+      | then-filled_whole w ↦ (next c.args.side es lp.entry-index _ ns c.if-filled_whole.places.nodes _ h (ap (λ m. m.nodes) w.places-is ∙ w.remove.ensures.nodes ∙ sym (cond-true _ _ _ (sym w.if-filled_whole.ensures.value))) lp.invariant.0, ap (λ m. m.capacity) w.places-is ∙ w.remove.ensures.capacity ∙ lp.invariant.1, subst (Sound by_order_id) (sym w.places-is) w.remove.ensures.sound)
+      | else-filled_whole w ↦ (next c.args.side es lp.entry-index _ ns c.if-filled_whole.places.nodes _ h (ap (λ m. m.nodes) w.places-is ∙ sym (cond-false _ _ _ (sym w.if-filled_whole.ensures.value))) lp.invariant.0, ap (λ m. m.capacity) w.places-is ∙ lp.invariant.1, subst (Sound by_order_id) (sym w.places-is) lp.invariant.2)
     ]
 
 pub returns : goal.returns
 returns c =
     let lp = c.loop-entry in
     record {
-      places = sym (at_drop_all (λ xs. forgotten c.args.side xs (nodes_by_order lp.places)) c.args.entries.now lp.entry-index c.loop-entry-test.false) ∙ lp.invariant.0;
+      places = sym (at_drop_all (λ xs. forgotten c.args.side xs lp.places.nodes) c.args.entries.now lp.entry-index c.loop-entry-test.false) ∙ lp.invariant.0;
       room = lp.invariant.1;
+      sound = lp.invariant.2;
     }

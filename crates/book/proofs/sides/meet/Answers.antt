@@ -1,6 +1,5 @@
 use Rattle.std.proofs.Common.{◌≡◌, ℕ, zero, suc, ◌-◌, ◌≤◌, List, [], ◌∷◌, ◌++◌, length, take, drop, ap, ◌∙◌, arith}
 use Rattle.fix.specs.Command.{order_figures}
-use Rattle.ordered.specs.Map.{nodes_by_order}
 use Rattle.level.specs.Fits.{Fits}
 use Rattle.level.proofs.Queues.{fits_from}
 use Rattle.market.specs.Market.{Level, other, resting}
@@ -25,13 +24,13 @@ returns g c =
     let o = c.args.order.now in
     let split = g.P.Policy.split c.args.policy.now in
     let b = c.args.theirs.now in
-    let ns = nodes_by_order c.args.places.now in
+    let ns = c.args.places.now.nodes in
     let met = c.in-Ok.ensures.told in
     let m : Met = meets split (order_figures o) o.lots (levels_of b) in
     let slice : take (c.in-Ok.after.written - 1) (drop 1 c.meet.new.list) ≡ m.entries = behind c.args.list.now c.meet.new.list m.entries c.in-Ok.after.written met.front (omega (arith, c.requires.long)) met.from in
-    let nodes : nodes_by_order c.forget.new.places ≡ forgotten (other o.side) m.entries ns = c.forget.ensures.places ∙ ap (λ s. forgotten s (take (c.in-Ok.after.written - 1) (drop 1 c.meet.new.list)) ns) c.other.ensures.value ∙ ap (λ es. forgotten (other o.side) es ns) slice in
+    let nodes : c.forget.new.places.nodes ≡ forgotten (other o.side) m.entries ns = c.forget.ensures.places ∙ ap (λ s. forgotten s (take (c.in-Ok.after.written - 1) (drop 1 c.meet.new.list)) ns) c.other.ensures.value ∙ ap (λ es. forgotten (other o.side) es ns) slice in
     let fitting : (q : ℕ) (ls : List ℕ) → Fits (split q ls) ls = λ q ls. fits_from (split q ls) ls (g.met.P.Policy.as_many c.args.policy.now q ls) (g.met.P.Policy.within c.args.policy.now q ls) in
-    let p = passed (order_figures o) split fitting (λ k price. 0) o.lots (levels_of b) ns (levels_tradable b) c.args.places.now.ascends (λ k price. omega (arith, c.requires.placed k price)) in
+    let p = passed (order_figures o) split fitting (λ k price. 0) o.lots (levels_of b) ns (levels_tradable b) c.requires.sound.ascends (λ k price. omega (arith, c.requires.placed k price)) in
     let levels : levels_of c.meet.new.self ≡ m.levels = met.levels in
     record {
       meets = met;
@@ -42,4 +41,5 @@ returns g c =
       };
       side = c.in-Ok.ensures.side;
       room = c.forget.ensures.room;
+      sound = c.forget.ensures.sound;
     }

@@ -1,20 +1,20 @@
 use Rattle.std.proofs.Common.{ap}
 use Rattle.std.specs.Option.{option_map}
-use Rattle.ordered.specs.Order.{Total}
-use Rattle.ordered.proofs.Orders.{ne_from}
+use Rattle.ordered.proofs.Orders.{total_from, ne_from}
 use Rattle.ordered.proofs.Between.{ascends}
 use Rattle.ordered.proofs.Ascends.{ascending_none, ascending_put, ascending_without}
 use Rattle.ordered.proofs.Insertions.{insertion_there, insertion_full, insertion_fits}
 use Rattle.ordered.proofs.Lookups.{node_none, node_put_same, node_put_other, node_without_same, node_without_other, node_key, length_put, length_without, without_none}
 use Rattle.ordered.proofs.Ends.{first_none, last_none, first_there, last_there, first_least, last_greatest}
+use Rattle.ordered.proofs.Values.{value_same, value_other, value_none, ascending_value, length_value, first_value}
 use Rattle.ordered.proofs.laws.laws_hold.Goals as goal
 
 pub returns : goal.returns
 returns g c =
-    let order = g.K.Key.order in
-    let met = g.met.K.Key in
-    let total : Total order = record { itself = met.itself; same = met.same; turned = met.turned; transitive = met.transitive } in
+    let order = g.K.Ord.cmp in
+    let total = total_from g.met.K.Ord.total g.met.K.Key.same in
     record {
+      total_order = total;
       looks_up = record {
         empty = λ key. ap (option_map (λ n. n.value)) (node_none order key);
         put_same = λ ns n. ap (option_map (λ n. n.value)) (node_put_same order total n ns);
@@ -33,6 +33,14 @@ returns g c =
         put_in = λ ns n. length_put order n ns;
         taken_out = length_without order;
         not_there = without_none order;
+      };
+      writes = record {
+        same = value_same order;
+        other = λ ns key other w ne. value_other order total ns key other w (ne_from order total key other ne);
+        not_there = value_none order;
+        ascends = ascending_value order;
+        count = length_value order;
+        first_is = first_value order total;
       };
       insertions = record {
         there = insertion_there order;

@@ -10,7 +10,7 @@ use Rattle.ordered.specs.Place.{At}
 use Rattle.ordered.proofs.Found.{node_at, removed_at}
 use Rattle.level.specs.declared.level.Level.{Level}
 use Rattle.level.specs.Queue.{queue_of}
-use Rattle.side.proofs.Ladder.{price_total}
+use Rattle.ordered.proofs.Orders.{price_total}
 use Rattle.side.proofs.rows.settle.Goals as goal
 
 pub unreachable-requires : goal.unreachable-requires

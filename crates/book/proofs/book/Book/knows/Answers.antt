@@ -1,6 +1,5 @@
 use Rattle.std.proofs.Common.{◌≡◌, is_some, Some, None, Option, sym, refl, ap, ◌∙◌}
 use Rattle.std.specs.Option.{option_map}
-use Rattle.ordered.specs.Map.{nodes_by_order}
 use Rattle.ordered.specs.declared.key.order_id.OrderId.{OrderId}
 use Rattle.side.specs.Levels.{levels_of}
 use Rattle.book.specs.Place.{place_of}
@@ -20,5 +19,5 @@ returns c =
           c.is_some.ensures
           ∙ some_mapped (λ x. x.now) c.get.result
           ∙ ap is_some c.get.ensures.value
-          ∙ sym (known_is k (place_of (nodes_by_order b.places) k) (levels_of b.buys) (levels_of b.sells) (b.bought k) (b.sold k));
+          ∙ sym (known_is k (place_of b.places.nodes k) (levels_of b.buys) (levels_of b.sells) (b.bought k) (b.sold k));
     }

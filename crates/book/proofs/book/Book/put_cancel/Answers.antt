@@ -4,7 +4,6 @@ use Rattle.fix.specs.Command.{cancel_figures}
 use Rattle.fix.specs.declared.command.Cancel.{Cancel}
 use Rattle.fix.specs.declared.command.Side.{Side}
 use Rattle.fix.specs.declared.command.Side.TheVariants.{Buy, Sell}
-use Rattle.ordered.specs.Map.{nodes_by_order}
 use Rattle.ordered.specs.Order.{by_order_id}
 use Rattle.ordered.specs.Row.{node_with}
 use Rattle.ordered.specs.declared.key.order_id.OrderId.{OrderId}
@@ -46,15 +45,16 @@ pub invariant_of-self : goal.invariant_of-self
 invariant_of-self c =
     let b = c.args.self.now in
     let k = key_of c.args.cancel.now in
-    let ns = nodes_by_order b.places in
+    let ns = b.places.nodes in
     let e = c.remove.ensures in
-    let same : nodes_by_order c.remove.new.self ≡ ns = e.nodes ∙ without_none by_order_id ns k (sym c.in-None.ensures.value) in
+    let same : c.remove.new.self.nodes ≡ ns = e.nodes ∙ without_none by_order_id ns k (sym c.in-None.ensures.value) in
     record {
       buys_side = b.buys_side;
       sells_side = b.sells_side;
       bought = (λ j p. b.bought j p ∙ ap (λ ms. told (place_of ms j) Buy p) (sym same));
       sold = (λ j p. b.sold j p ∙ ap (λ ms. told (place_of ms j) Sell p) (sym same));
       counted = b.counted ∙ ap length (sym same);
+      sound = e.sound;
       room = e.capacity ∙ b.room;
     }
 
@@ -63,13 +63,13 @@ invariant_of-self-in-Buy c =
     let b = c.args.self.now in
     let k = key_of c.args.cancel.now in
     let place = c.in-Some.node.value in
-    let ns = nodes_by_order b.places in
+    let ns = b.places.nodes in
     let ls = levels_of b.buys in
     let e = c.remove.ensures in
     let t = c.take_out-taken.ensures in
     let is : place_of ns k ≡ Some place = valued ns k c.in-Some.ensures.value in
-    let up = b.places.ascends in
-    let shrunk : length (nodes_by_order c.remove.new.self) + 1 ≡ length ns = ap (λ ms. length ms + 1) e.nodes ∙ length_less ns k (ap is_some is) in
+    let up = b.sound.ascends in
+    let shrunk : length c.remove.new.self.nodes + 1 ≡ length ns = ap (λ ms. length ms + 1) e.nodes ∙ length_less ns k (ap is_some is) in
     let fewer : resting (levels_of c.take_out-taken.new.mine) + 1 ≡ resting ls = ap (λ ys. resting ys + 1) t.levels ∙ once k place Buy ls ns is b.bought c.in-Buy.is in
     record {
       buys_side = ap (λ s. same_side s Buy) t.side ∙ b.buys_side;
@@ -77,6 +77,7 @@ invariant_of-self-in-Buy c =
       bought = (λ j p. ap (held j p) t.levels ∙ told_cut k ns up Buy ls b.bought j p ∙ ap (λ ms. told (place_of ms j) Buy p) (sym e.nodes));
       sold = (λ j p. told_stays k ns up place is Sell (levels_of b.sells) (ap (λ s. same_side s Sell) c.in-Buy.is) b.sold j p ∙ ap (λ ms. told (place_of ms j) Sell p) (sym e.nodes));
       counted = omega (arith, b.counted, shrunk, fewer);
+      sound = e.sound;
       room = e.capacity ∙ b.room;
     }
 
@@ -85,13 +86,13 @@ invariant_of-self-in-Sell c =
     let b = c.args.self.now in
     let k = key_of c.args.cancel.now in
     let place = c.in-Some.node.value in
-    let ns = nodes_by_order b.places in
+    let ns = b.places.nodes in
     let ls = levels_of b.sells in
     let e = c.remove.ensures in
     let t = c.take_out-taken-in-Sell.ensures in
     let is : place_of ns k ≡ Some place = valued ns k c.in-Some.ensures.value in
-    let up = b.places.ascends in
-    let shrunk : length (nodes_by_order c.remove.new.self) + 1 ≡ length ns = ap (λ ms. length ms + 1) e.nodes ∙ length_less ns k (ap is_some is) in
+    let up = b.sound.ascends in
+    let shrunk : length c.remove.new.self.nodes + 1 ≡ length ns = ap (λ ms. length ms + 1) e.nodes ∙ length_less ns k (ap is_some is) in
     let fewer : resting (levels_of c.take_out-taken-in-Sell.new.mine) + 1 ≡ resting ls = ap (λ ys. resting ys + 1) t.levels ∙ once k place Sell ls ns is b.sold c.in-Sell.is in
     record {
       buys_side = b.buys_side;
@@ -99,6 +100,7 @@ invariant_of-self-in-Sell c =
       bought = (λ j p. told_stays k ns up place is Buy (levels_of b.buys) (ap (λ s. same_side s Buy) c.in-Sell.is) b.bought j p ∙ ap (λ ms. told (place_of ms j) Buy p) (sym e.nodes));
       sold = (λ j p. ap (held j p) t.levels ∙ told_cut k ns up Sell ls b.sold j p ∙ ap (λ ms. told (place_of ms j) Sell p) (sym e.nodes));
       counted = omega (arith, b.counted, shrunk, fewer);
+      sound = e.sound;
       room = e.capacity ∙ b.room;
     }
 
@@ -108,7 +110,7 @@ returns c =
     let d = cancel_figures c.args.cancel.now in
     let k = key_of c.args.cancel.now in
     let m = market_of b in
-    let ns = nodes_by_order b.places in
+    let ns = b.places.nodes in
     let told-by : Event → List Entry = λ v. entry d.number d.member d.order v ∷ [] in
     elim c.match-remove.branch [
       | in-None w ↦

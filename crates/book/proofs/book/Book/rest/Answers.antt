@@ -1,6 +1,5 @@
 use Rattle.std.proofs.Common.{◌≡◌, ℕ, ◌<◌, false, None, sym, ap, ◌∙◌, subst, arith}
 use Rattle.fix.specs.declared.command.Side.TheVariants.{Buy, Sell}
-use Rattle.ordered.specs.Map.{nodes_by_order}
 use Rattle.ordered.specs.declared.key.order_id.OrderId.{OrderId}
 use Rattle.level.proofs.Queues.{tradable_from}
 use Rattle.market.specs.Market.{known}
@@ -15,8 +14,8 @@ use Rattle.book.proofs.Places.{same_from}
 use Rattle.book.proofs.Known.{none_from, known_is}
 use Rattle.book.proofs.book.Book.rest.Goals as goal
 
-not_placed : (b : Book) (k : OrderId) → known k.member k.order (market_of b) ≡ false → place_of (nodes_by_order b.places) k ≡ None
-not_placed b k e = none_from (place_of (nodes_by_order b.places) k) (sym (known_is k (place_of (nodes_by_order b.places) k) (levels_of b.buys) (levels_of b.sells) (b.bought k) (b.sold k)) ∙ e)
+not_placed : (b : Book) (k : OrderId) → known k.member k.order (market_of b) ≡ false → place_of b.places.nodes k ≡ None
+not_placed b k e = none_from (place_of b.places.nodes k) (sym (known_is k (place_of b.places.nodes k) (levels_of b.buys) (levels_of b.sells) (b.bought k) (b.sold k)) ∙ e)
 
 some_left : (n : ℕ) → (n ≡ 0 → ⊥) → 0 < n
 some_left n ne = omega arith
@@ -29,7 +28,7 @@ rest-requires c =
     let more : 0 < c.args.left = some_left c.args.left c.if-left-eq0.false in
     record {
       side = same_from b.buys.side Buy b.buys_side ∙ sym c.in-Buy.is;
-      placed = λ j p. b.bought j p ∙ ap (λ s. told (place_of (nodes_by_order b.places) j) s p) (sym c.in-Buy.is);
+      placed = λ j p. b.bought j p ∙ ap (λ s. told (place_of b.places.nodes j) s p) (sym c.in-Buy.is);
       new = not_placed b k c.requires.new;
       short = omega (arith, b.counted, c.requires.short more);
       fewer = omega (arith, b.counted);
@@ -42,14 +41,15 @@ pub invariant_of-self : goal.invariant_of-self
 invariant_of-self c =
     let b = c.args.self.now in
     let e = c.rest.ensures in
-    let t : Together Buy (levels_of b.buys) (levels_of c.rest.new.mine) (nodes_by_order b.places) (nodes_by_order c.rest.new.places) =
-    subst (λ s. Together s (levels_of b.buys) (levels_of c.rest.new.mine) (nodes_by_order b.places) (nodes_by_order c.rest.new.places)) c.in-Buy.is e.together in
+    let t : Together Buy (levels_of b.buys) (levels_of c.rest.new.mine) b.places.nodes c.rest.new.places.nodes =
+    subst (λ s. Together s (levels_of b.buys) (levels_of c.rest.new.mine) b.places.nodes c.rest.new.places.nodes) c.in-Buy.is e.together in
     record {
       buys_side = ap (λ s. same_side s Buy) e.side ∙ b.buys_side;
       sells_side = b.sells_side;
       bought = t.placed;
       sold = (λ k p. b.sold k p ∙ sym (t.others k p));
       counted = omega (arith, b.counted, t.count);
+      sound = e.sound;
       room = e.room ∙ b.room;
     }
 
@@ -61,7 +61,7 @@ rest-requires-in-Sell c =
     let more : 0 < c.args.left = some_left c.args.left c.if-left-eq0.false in
     record {
       side = same_from b.sells.side Sell b.sells_side ∙ sym c.in-Sell.is;
-      placed = λ j p. b.sold j p ∙ ap (λ s. told (place_of (nodes_by_order b.places) j) s p) (sym c.in-Sell.is);
+      placed = λ j p. b.sold j p ∙ ap (λ s. told (place_of b.places.nodes j) s p) (sym c.in-Sell.is);
       new = not_placed b k c.requires.new;
       short = omega (arith, b.counted, c.requires.short more);
       fewer = omega (arith, b.counted);
@@ -74,13 +74,14 @@ pub invariant_of-self-in-Sell : goal.invariant_of-self-in-Sell
 invariant_of-self-in-Sell c =
     let b = c.args.self.now in
     let e = c.rest-in-Sell.ensures in
-    let t : Together Sell (levels_of b.sells) (levels_of c.rest-in-Sell.new.mine) (nodes_by_order b.places) (nodes_by_order c.rest-in-Sell.new.places) =
-    subst (λ s. Together s (levels_of b.sells) (levels_of c.rest-in-Sell.new.mine) (nodes_by_order b.places) (nodes_by_order c.rest-in-Sell.new.places)) c.in-Sell.is e.together in
+    let t : Together Sell (levels_of b.sells) (levels_of c.rest-in-Sell.new.mine) b.places.nodes c.rest-in-Sell.new.places.nodes =
+    subst (λ s. Together s (levels_of b.sells) (levels_of c.rest-in-Sell.new.mine) b.places.nodes c.rest-in-Sell.new.places.nodes) c.in-Sell.is e.together in
     record {
       buys_side = b.buys_side;
       sells_side = ap (λ s. same_side s Sell) e.side ∙ b.sells_side;
       bought = (λ k p. b.bought k p ∙ sym (t.others k p));
       sold = t.placed;
       counted = omega (arith, b.counted, t.count);
+      sound = e.sound;
       room = e.room ∙ b.room;
     }

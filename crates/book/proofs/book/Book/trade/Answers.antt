@@ -24,7 +24,7 @@ module _ (g : given.Over) (p : g.row.P.Denot) where
   full q ls = total_sum (g.P.Policy.split p q ls) ∙ g.met.P.Policy.full p q ls ∙ ap (min q) (sym (total_sum ls))
 
 few_of : (b : Book) → all_resting (market_of b) ≤ capacity
-few_of b = omega (arith, b.counted, b.room, b.places.row.inside, b.places.row.nodes.ok.0)
+few_of b = omega (arith, b.counted, b.room, b.sound.inside)
 
 some_of : (b : Book) (of s : Side) (price : ℕ) → best_crosses of price (levels s (market_of b)) ≡ true → 0 < length (first_queue (levels s (market_of b)))
 some_of b of Buy price e = first_some of price b.buys e

@@ -2,6 +2,7 @@ use Rattle.std.proofs.Common.{◌≡◌, true, [], length, is_some, vec_items, v
 use Rattle.answers.specs.Answer.{refused, if_answered}
 use Rattle.std.specs.List.{insert}
 use Rattle.ordered.specs.Order.{Total}
+use Rattle.ordered.proofs.Orders.{total_from}
 use Rattle.ordered.specs.Place.{At, Gap}
 use Rattle.ordered.specs.Refusal.{room, insertion}
 use Rattle.ordered.specs.Row.{ascending, put}
@@ -11,12 +12,12 @@ use Rattle.ordered.proofs.Insertions.{insertion_there, insertion_new, either_way
 use Rattle.ordered.proofs.row.changes.insert.Given as given
 use Rattle.ordered.proofs.row.changes.insert.Goals as goal
 
-total : (g : given.Over) → Total g.K.Key.order
-total g = record { itself = g.met.K.Key.itself; same = g.met.K.Key.same; turned = g.met.K.Key.turned; transitive = g.met.K.Key.transitive }
+total : (g : given.Over) → Total g.K.Ord.cmp
+total g = total_from g.met.K.Ord.total g.met.K.Key.same
 
 pub returns-in-Ok : goal.returns-in-Ok
 returns-in-Ok g c =
-    let order = g.K.Key.order in
+    let order = g.K.Ord.cmp in
     let ns = vec_items c.args.nodes.now in
     let node = c.args.node in
     let place = c.in-Ok.field-0 in
@@ -35,7 +36,7 @@ returns-in-Ok g c =
 
 pub returns-in-Err : goal.returns-in-Err
 returns-in-Err g c =
-    let order = g.K.Key.order in
+    let order = g.K.Ord.cmp in
     let capacity = c.args.capacity in
     let ns = vec_items c.args.nodes.now in
     let node = c.args.node in

@@ -1,5 +1,6 @@
 use Rattle.std.proofs.Common.{◌≡◌, true, Some, vec_items, sym, ap, ◌∙◌, subst, rules}
 use Rattle.ordered.specs.Order.{Total}
+use Rattle.ordered.proofs.Orders.{total_from}
 use Rattle.ordered.specs.Place.{At, Gap}
 use Rattle.ordered.specs.Row.{ascending}
 use Rattle.ordered.proofs.Ascends.{ascending_without}
@@ -7,12 +8,12 @@ use Rattle.ordered.proofs.Found.{node_at, removed_at, node_gap, without_gap}
 use Rattle.ordered.proofs.row.changes.remove.Given as given
 use Rattle.ordered.proofs.row.changes.remove.Goals as goal
 
-total : (g : given.Over) → Total g.K.Key.order
-total g = record { itself = g.met.K.Key.itself; same = g.met.K.Key.same; turned = g.met.K.Key.turned; transitive = g.met.K.Key.transitive }
+total : (g : given.Over) → Total g.K.Ord.cmp
+total g = total_from g.met.K.Ord.total g.met.K.Key.same
 
 pub returns-in-Ok : goal.returns-in-Ok
 returns-in-Ok g c =
-    let order = g.K.Key.order in
+    let order = g.K.Ord.cmp in
     let ns = vec_items c.args.nodes.now in
     let key = c.args.key.now in
     let place = c.in-Ok.place in
@@ -28,7 +29,7 @@ returns-in-Ok g c =
 
 pub returns-in-Err : goal.returns-in-Err
 returns-in-Err g c =
-    let order = g.K.Key.order in
+    let order = g.K.Ord.cmp in
     let ns = vec_items c.args.nodes.now in
     let key = c.args.key.now in
     let place = c.in-Err.field-0 in

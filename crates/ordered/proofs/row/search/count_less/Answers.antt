@@ -3,12 +3,13 @@ use lib.Pow.{pow-lt}
 use mir.Val.{bool_byte}
 use Rattle.std.specs.Ordering.{is_lt}
 use Rattle.ordered.specs.Order.{Total}
+use Rattle.ordered.proofs.Orders.{total_from}
 use Rattle.ordered.proofs.Between.{stepped, ended}
 use Rattle.ordered.proofs.row.search.count_less.Given as given
 use Rattle.ordered.proofs.row.search.count_less.Goals as goal
 
-total : (g : given.Over) → Total g.K.Key.order
-total g = record { itself = g.met.K.Key.itself; same = g.met.K.Key.same; turned = g.met.K.Key.turned; transitive = g.met.K.Key.transitive }
+total : (g : given.Over) → Total g.K.Ord.cmp
+total g = total_from g.met.K.Ord.total g.met.K.Key.same
 
 -- the steps that are left reach as far as this step and as many again
 halves : (bit : ℕ) → 0 < bit → 2 ^ bit ≡ 2 ^ (bit - 1) + 2 ^ (bit - 1)
@@ -35,9 +36,9 @@ loop-bit-preserved-then-step-nodes g c =
     let step = step_is bit (omega arith) in
     let reach = halves c.loop-bit.bit (omega arith) in
     let some = pow_pos bit in
-    stepped g.K.Key.order (total g) c.args.nodes.now c.requires.ascending c.args.key.now c.loop-bit.low _ _ (2 ^ bit) _ c.is_lt-less.result c.loop-bit.invariant (omega arith) (c.is_lt-less.ensures ∙ ap is_lt c.compare.ensures.value) (omega arith) (omega arith) _ (ap (λ n. c.loop-bit.low + n) (bit_is c.is_lt-less.result bit (omega arith)))
+    stepped g.K.Ord.cmp (total g) c.args.nodes.now c.requires.ascending c.args.key.now c.loop-bit.low _ _ (2 ^ bit) _ c.is_lt-less.result c.loop-bit.invariant (omega arith) (c.is_lt-less.ensures ∙ ap is_lt c.cmp.ensures) (omega arith) (omega arith) _ (ap (λ n. c.loop-bit.low + n) (bit_is c.is_lt-less.result bit (omega arith)))
 
 pub loop-bit-preserved : goal.loop-bit-preserved
 loop-bit-preserved g c =
     let step = step_is (c.loop-bit.bit - 1) (omega arith) in
-    ended g.K.Key.order (total g) c.args.nodes.now c.requires.ascending c.args.key.now _ _ _ c.loop-bit.invariant (omega arith)
+    ended g.K.Ord.cmp (total g) c.args.nodes.now c.requires.ascending c.args.key.now _ _ _ c.loop-bit.invariant (omega arith)
