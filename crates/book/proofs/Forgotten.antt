@@ -9,7 +9,7 @@ use Rattle.ordered.specs.Row.{without, ascending}
 use Rattle.ordered.specs.declared.key.order_id.OrderId.{OrderId}
 use Rattle.ordered.specs.declared.node.Node.{Node}
 use Rattle.ordered.proofs.Ascends.{ascending_without}
-use Rattle.level.specs.Fits.{Fits}
+use Rattle.std.specs.List.{AllZip}
 use Rattle.level.proofs.Queues.{first_tradable, rest_tradable, tradable_least}
 use Rattle.market.specs.declared.entry.Entry.{Entry}
 use Rattle.market.specs.declared.resting.Resting.{Resting}
@@ -44,7 +44,7 @@ present_most None = omega arith
 present_most (Some p) = omega arith
 
 -- an order stands in the rest of its queue, or is gone
-pub occurs_after : (k : OrderId) (fs : List ℕ) (q : List Resting) → Fits fs (lots_of q) → occurs k (after_fills fs q) + occurs k (gone fs q) ≡ occurs k q
+pub occurs_after : (k : OrderId) (fs : List ℕ) (q : List Resting) → AllZip ◌≤◌ fs (lots_of q) → occurs k (after_fills fs q) + occurs k (gone fs q) ≡ occurs k q
 unfolding gone
 occurs_after k [] [] w = refl
 occurs_after k [] (r ∷ q) w = absurd w
@@ -62,7 +62,7 @@ occurs_after k (f ∷ fs) (r ∷ q) w =
     omega arith)
     (cases_lt f r.lots)
 
-pub length_gone : (fs : List ℕ) (q : List Resting) → Fits fs (lots_of q) → length (after_fills fs q) + length (gone fs q) ≡ length q
+pub length_gone : (fs : List ℕ) (q : List Resting) → AllZip ◌≤◌ fs (lots_of q) → length (after_fills fs q) + length (gone fs q) ≡ length q
 unfolding gone
 length_gone [] [] w = refl
 length_gone [] (r ∷ q) w = absurd w
@@ -131,7 +131,7 @@ module _ (o : NewOrder) (price : ℕ) where
   none_of zero left r es ns h = refl
   none_of (suc f) left r es ns h = absurd (omega arith)
 
-  pub forget_queue : (left : ℕ) (fs : List ℕ) (q : List Resting) (ns : List (Node OrderId Place)) → Fits fs (lots_of q) → all_tradable (lots_of q) ≡ true → ascending by_order_id ns ≡ true → ((k : OrderId) → occurs k q ≤ present (place_of ns k)) → Forgets (gone fs q) ns (forgotten (other o.side) (of_fills o price left fs q) ns)
+  pub forget_queue : (left : ℕ) (fs : List ℕ) (q : List Resting) (ns : List (Node OrderId Place)) → AllZip ◌≤◌ fs (lots_of q) → all_tradable (lots_of q) ≡ true → ascending by_order_id ns ≡ true → ((k : OrderId) → occurs k q ≤ present (place_of ns k)) → Forgets (gone fs q) ns (forgotten (other o.side) (of_fills o price left fs q) ns)
   unfolding gone
   forget_queue left [] q ns w a up there = none_gone ns up
   forget_queue left (f ∷ fs) [] ns w a up there = absurd w

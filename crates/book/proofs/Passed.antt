@@ -7,7 +7,7 @@ use Rattle.ordered.specs.Order.{by_order_id}
 use Rattle.ordered.specs.Row.{ascending}
 use Rattle.ordered.specs.declared.key.order_id.OrderId.{OrderId}
 use Rattle.ordered.specs.declared.node.Node.{Node}
-use Rattle.level.specs.Fits.{Fits}
+use Rattle.std.specs.List.{AllZip}
 use Rattle.market.specs.declared.entry.Entry.{Entry}
 use Rattle.market.specs.declared.resting.Resting.{Resting}
 use Rattle.market.specs.Market.{Level, lots_of, total, crosses, other, resting}
@@ -47,7 +47,7 @@ module _ (o : NewOrder) where
 
   -- one level is filled
   module _ (beyond : OrderId → ℕ → ℕ) (price : ℕ) (fs : List ℕ) (q : List Resting) (ls : List Level) (ns ns' : List (Node OrderId Place))
-      (fit : Fits fs (lots_of q))
+      (fit : AllZip ◌≤◌ fs (lots_of q))
       (placed : (k : OrderId) (p : ℕ) → beyond k p + held k p (record { price = price; queue = q } ∷ ls) ≡ told (place_of ns k) (other o.side) p)
       (forgets : Forgets (gone fs q) ns ns') where
     here : (k : OrderId) → cond (eqb price price) (occurs k q) 0 ≡ occurs k q
@@ -93,7 +93,7 @@ module _ (o : NewOrder) where
         (λ (h : occurs k (gone fs q) ≤ 0). ap (λ (x : Option Place). told x (other (other o.side)) p) (forgets.places k ∙ cond-false (ltb 0 (occurs k (gone fs q))) None (place_of ns k) (le-ltb 0 (occurs k (gone fs q)) h)))
         (cases_lt 0 (occurs k (gone fs q)))
 
-  module _ (split : ℕ → List ℕ → List ℕ) (fitting : (q : ℕ) (ls : List ℕ) → Fits (split q ls) ls) where
+  module _ (split : ℕ → List ℕ → List ℕ) (fitting : (q : ℕ) (ls : List ℕ) → AllZip ◌≤◌ (split q ls) ls) where
     pub passed : (beyond : OrderId → ℕ → ℕ) (left : ℕ) (ls : List Level) (ns : List (Node OrderId Place)) → Tradable ls → ascending by_order_id ns ≡ true → ((k : OrderId) (p : ℕ) → beyond k p + held k p ls ≡ told (place_of ns k) (other o.side) p) → Passed beyond ls ns (meets split o left ls)
     passed beyond left [] ns t up placed = idle beyond left [] ns placed
     passed beyond zero (l ∷ ls) ns t up placed = idle beyond 0 (l ∷ ls) ns placed

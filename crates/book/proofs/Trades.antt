@@ -4,7 +4,7 @@ use Rattle.std.proofs.lemmas.Bool.{cases_Bool, cond-true, cond-false, false≢tr
 use Rattle.fix.specs.Command.{NewOrder}
 use Rattle.fix.specs.declared.command.Side.{Side}
 use Rattle.fix.specs.declared.command.Side.TheVariants.{Buy, Sell}
-use Rattle.level.specs.Fits.{Fits}
+use Rattle.std.specs.List.{AllZip}
 use Rattle.level.proofs.Queues.{length_after}
 use Rattle.market.specs.declared.entry.Reason.{Reason}
 use Rattle.market.specs.declared.entry.Reason.TheVariants.{BookFull, DuplicateOrder}
@@ -110,7 +110,7 @@ module _ (split : ℕ → List ℕ → List ℕ) (o : NewOrder) where
       (λ (t : b ≡ false). ap (λ (m : Met). in_levels member order m.levels) (cond-false b met stop t) ∙ e)
       (cases_Bool b)
 
-  module _ (within : (q : ℕ) (ls : List ℕ) → Fits (split q ls) ls) (full : (q : ℕ) (ls : List ℕ) → total (split q ls) ≡ min q (total ls)) where
+  module _ (within : (q : ℕ) (ls : List ℕ) → AllZip ◌≤◌ (split q ls) ls) (full : (q : ℕ) (ls : List ℕ) → total (split q ls) ≡ min q (total ls)) where
     -- an order that meets a level and is not done has taken one out
     pub meets_fewer : (q : ℕ) (ls : List Level) → best_crosses o.side o.price ls ≡ true → 0 < length (first_queue ls) → 0 < (meets split o q ls).left → resting (meets split o q ls).levels < resting ls
     meets_fewer q [] c some h = absurd (omega arith)
@@ -149,7 +149,7 @@ module _ (split : ℕ → List ℕ → List ℕ) (o : NewOrder) (m : Market) whe
   all_with Buy ls = omega arith
   all_with Sell ls = omega arith
 
-  module _ (within : (q : ℕ) (ls : List ℕ) → Fits (split q ls) ls) (full : (q : ℕ) (ls : List ℕ) → total (split q ls) ≡ min q (total ls)) where
+  module _ (within : (q : ℕ) (ls : List ℕ) → AllZip ◌≤◌ (split q ls) ls) (full : (q : ℕ) (ls : List ℕ) → total (split q ls) ≡ min q (total ls)) where
     -- where something is left of an order that is not turned down, there is room for it
     pub room_left : all_resting m ≤ capacity
         → (leb capacity (all_resting m) && not (best_crosses o.side o.price (levels (other o.side) m))) ≡ false

@@ -3,83 +3,65 @@
 use allocation::{Fifo, Policy, ProRata};
 use book::{Book, MOST_ENTRIES};
 use fix::{Cancel, Command, NewOrder, Side};
-use market::{Entry, Event, Reason};
+use market::Entry;
 use std::alloc::Global;
 
-/// Where memory is wanting, or a figure is out of range.
+/// What C is told where memory is wanting, or a figure is out of range.
 const FAILED: u64 = u64::MAX;
 
-fn order(side: Side, [member, number, order, lots, price]: [u32; 5]) -> Option<Command> {
-    match NewOrder::new(member, number, order, side, lots, price) {
-        Ok(o) => Some(Command::New(o)),
-        Err(_) => None,
-    }
-}
-
 fn command(six: &[u32]) -> Option<Command> {
-    let [what, member, number, id, lots, price] = six else {
+    let [what, member, number, id, lots, price] = *six else {
         return None;
     };
-    match *what {
-        0 => match Cancel::new(*member, *number, *id) {
-            Ok(o) => Some(Command::Cancel(o)),
-            Err(_) => None,
-        },
-        1 => order(Side::Buy, [*member, *number, *id, *lots, *price]),
-        2 => order(Side::Sell, [*member, *number, *id, *lots, *price]),
-        _ => None,
-    }
+    let side = match what {
+        0 => return Cancel::new(member, number, id).ok().map(Command::Cancel),
+        1 => Side::Buy,
+        2 => Side::Sell,
+        _ => return None,
+    };
+    NewOrder::new(member, number, id, side, lots, price)
+        .ok()
+        .map(Command::New)
 }
 
+/// The nine figures of an entry, each times a weight of its own.
 fn weighed(entry: &Entry) -> u64 {
     let e = entry.figures();
-    let mut sum = u64::from(e.command);
-    sum = sum.wrapping_add(u64::from(e.member).wrapping_mul(3));
-    sum = sum.wrapping_add(u64::from(e.order).wrapping_mul(5));
-    sum = sum.wrapping_add(u64::from(e.side).wrapping_mul(7));
-    sum = sum.wrapping_add(u64::from(e.kind).wrapping_mul(11));
-    sum = sum.wrapping_add(u64::from(e.lots).wrapping_mul(13));
-    sum = sum.wrapping_add(u64::from(e.price).wrapping_mul(17));
-    sum = sum.wrapping_add(u64::from(e.leaves).wrapping_mul(19));
-    sum.wrapping_add(u64::from(e.reason).wrapping_mul(23))
+    let kind = u32::from(e.kind);
+    let figures = [
+        e.command, e.member, e.order, e.side, kind, e.lots, e.price, e.leaves, e.reason,
+    ];
+    figures
+        .iter()
+        .zip([1, 3, 5, 7, 11, 13, 17, 19, 23])
+        .fold(0, |sum: u64, (figure, weight)| {
+            sum.wrapping_add(u64::from(*figure).wrapping_mul(weight))
+        })
 }
 
-fn trade<P: Policy>(heap: Global, policy: &P, commands: &[u32]) -> u64 {
-    let Ok(mut book) = Book::new(heap) else {
-        return FAILED;
-    };
-    let none = Entry {
-        command: 0,
-        member: 0,
-        order: 0,
-        event: Event::CancelTurnedDown {
-            reason: Reason::UnknownOrder,
-        },
-    };
-    let Ok(mut list) = vec![in heap; none; MOST_ENTRIES] else {
-        return FAILED;
-    };
+/// The sum of the entries of all commands; none where memory is wanting, or a figure is out of range.
+fn trade<P: Policy>(heap: Global, policy: &P, commands: &[u32]) -> Option<u64> {
+    let mut book = Book::new(heap).ok()?;
+    let mut list = vec![in heap; Entry::BLANK; MOST_ENTRIES].ok()?;
     let mut sum: u64 = 0;
     for six in commands.chunks(6) {
-        let Some(command) = command(six) else {
-            return FAILED;
-        };
-        let Ok(count) = book.put_through(policy, &command, list.as_mut_slice()) else {
-            return FAILED;
-        };
+        let command = command(six)?;
+        let count = book
+            .put_through(policy, &command, list.as_mut_slice())
+            .ok()?;
         for entry in list.iter().take(count) {
             sum = sum.wrapping_add(weighed(entry));
         }
     }
-    sum
+    Some(sum)
 }
 
 #[unsafe(no_mangle)]
 pub extern "C" fn lezdamir_book_fifo(heap: Global, commands: &[u32]) -> u64 {
-    trade(heap, &Fifo, commands)
+    trade(heap, &Fifo, commands).unwrap_or(FAILED)
 }
 
 #[unsafe(no_mangle)]
 pub extern "C" fn lezdamir_book_pro_rata(heap: Global, commands: &[u32]) -> u64 {
-    trade(heap, &ProRata, commands)
+    trade(heap, &ProRata, commands).unwrap_or(FAILED)
 }

@@ -1,7 +1,7 @@
 use fix::Side;
 
 /// Why a command is turned down.
-#[derive(Clone, Copy)]
+#[derive(Clone, Copy, PartialEq, Eq, Debug)]
 pub enum Reason {
     /// As many orders rest as a book holds, and the new one would trade with none.
     BookFull,
@@ -12,7 +12,7 @@ pub enum Reason {
 }
 
 /// What happened to an order.
-#[derive(Clone, Copy)]
+#[derive(Clone, Copy, PartialEq, Eq, Debug)]
 pub enum Event {
     Accepted {
         side: Side,
@@ -39,10 +39,22 @@ pub enum Event {
 }
 
 /// What a command did to one order: the command's number, whose order it is, and what happened to it.
-#[derive(Clone, Copy)]
+#[derive(Clone, Copy, PartialEq, Eq, Debug)]
 pub struct Entry {
     pub command: u32,
     pub member: u32,
     pub order: u32,
     pub event: Event,
+}
+
+impl Entry {
+    /// What a list of entries holds before any is written.
+    pub const BLANK: Entry = Entry {
+        command: 0,
+        member: 0,
+        order: 0,
+        event: Event::CancelTurnedDown {
+            reason: Reason::UnknownOrder,
+        },
+    };
 }

@@ -3,7 +3,7 @@ use Rattle.std.proofs.lemmas.List.{drop-set-lt}
 use Rattle.fix.specs.Command.{order_figures}
 use Rattle.fix.specs.declared.command.Side.{Side}
 use Rattle.fix.specs.declared.command.Side.TheVariants.{Buy, Sell}
-use Rattle.level.specs.Fits.{Fits}
+use Rattle.std.specs.List.{AllZip}
 use Rattle.level.proofs.Queues.{fits_from, total_sum}
 use Rattle.market.specs.Market.{Market, all_resting, capacity, known, best_crosses, levels, with_levels, other, total}
 use Rattle.market.specs.Put.{meets, rests}
@@ -17,7 +17,7 @@ use Rattle.book.proofs.book.Book.trade.Given as given
 use Rattle.book.proofs.book.Book.trade.Goals as goal
 
 module _ (g : given.Over) (p : g.row.P.Denot) where
-  fitting : (q : ℕ) (ls : List ℕ) → Fits (g.P.Policy.split p q ls) ls
+  fitting : (q : ℕ) (ls : List ℕ) → AllZip ◌≤◌ (g.P.Policy.split p q ls) ls
   fitting q ls = fits_from (g.P.Policy.split p q ls) ls (g.met.P.Policy.as_many p q ls) (g.met.P.Policy.within p q ls)
 
   full : (q : ℕ) (ls : List ℕ) → total (g.P.Policy.split p q ls) ≡ min q (total ls)
