@@ -1,17 +1,12 @@
 -- An entry's nine values: those that its kind does not name are 0.
 use Rattle.std.specs.Prelude.{ℕ}
-use Rattle.fix.specs.declared.command.Side.{Side}
-use Rattle.fix.specs.declared.command.Side.TheVariants.{Buy, Sell}
+use Rattle.fix.specs.Message.{side_number}
 use Rattle.market.specs.declared.entry.Reason.{Reason}
 use Rattle.market.specs.declared.entry.Reason.TheVariants.{BookFull, UnknownOrder, DuplicateOrder}
 use Rattle.market.specs.declared.entry.Event.{Event}
 use Rattle.market.specs.declared.entry.Event.TheVariants.{Accepted, Filled, Cancelled, OrderTurnedDown, CancelTurnedDown}
 use Rattle.market.specs.declared.entry.Entry.{Entry}
 use Rattle.market.specs.declared.figures.Figures.{Figures}
-
-abbrev pub side_number : Side → ℕ
-side_number Buy = 1
-side_number Sell = 2
 
 -- FIX's OrdRejReason
 abbrev pub reason_number : Reason → ℕ

@@ -1,9 +1,8 @@
 // Entries by their nine values, as tables and reports have them.
 ghost use Rattle.std.specs.Prelude.{◌≡◌};
-ghost use Rattle.market.specs.Entry.{figures, side_number, reason_number};
+ghost use Rattle.market.specs.Entry.{figures, reason_number};
 
 use crate::entry::{Entry, Event, Reason};
-use fix::Side;
 
 /// The nine values of an entry. What its kind does not name is 0.
 #[derive(Clone, Copy, PartialEq, Eq, Debug)]
@@ -20,22 +19,16 @@ pub struct Figures {
     pub reason: u32,
 }
 
-fn number_of_side(side: Side) -> u32
-    ensures value { result ≡ side_number side }
-{
-    match side {
-        Side::Buy => 1,
-        Side::Sell => 2,
-    }
-}
-
-fn number_of_reason(reason: Reason) -> u32
-    ensures value { result ≡ reason_number reason }
-{
-    match reason {
-        Reason::BookFull => 3,
-        Reason::UnknownOrder => 5,
-        Reason::DuplicateOrder => 6,
+impl Reason {
+    /// The number by which FIX knows the reason.
+    pub fn number(self) -> u32
+        ensures value { result ≡ reason_number self }
+    {
+        match self {
+            Reason::BookFull => 3,
+            Reason::UnknownOrder => 5,
+            Reason::DuplicateOrder => 6,
+        }
     }
 }
 
@@ -64,7 +57,7 @@ impl Entry {
         match self.event {
             Event::Accepted { side, lots } => {
                 let leaves = lots;
-                let bare = self.bare(number_of_side(side), b'0');
+                let bare = self.bare(side.number(), b'0');
                 Figures {
                     lots,
                     leaves,
@@ -77,7 +70,7 @@ impl Entry {
                 price,
                 leaves,
             } => {
-                let bare = self.bare(number_of_side(side), b'F');
+                let bare = self.bare(side.number(), b'F');
                 Figures {
                     lots,
                     price,
@@ -86,16 +79,16 @@ impl Entry {
                 }
             }
             Event::Cancelled { side, lots } => {
-                let bare = self.bare(number_of_side(side), b'4');
+                let bare = self.bare(side.number(), b'4');
                 Figures { lots, ..bare }
             }
             Event::OrderTurnedDown { side, reason } => {
-                let reason = number_of_reason(reason);
-                let bare = self.bare(number_of_side(side), b'8');
+                let reason = reason.number();
+                let bare = self.bare(side.number(), b'8');
                 Figures { reason, ..bare }
             }
             Event::CancelTurnedDown { reason } => {
-                let reason = number_of_reason(reason);
+                let reason = reason.number();
                 let bare = self.bare(0, b'8');
                 Figures { reason, ..bare }
             }

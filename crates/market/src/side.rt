@@ -19,8 +19,5 @@ pub fn other(side: Side) -> Side
 pub fn is_same(a: Side, b: Side) -> bool
     ensures value { result ≡ same_side a b }
 {
-    match (a, b) {
-        (Side::Buy, Side::Buy) | (Side::Sell, Side::Sell) => true,
-        (Side::Buy, Side::Sell) | (Side::Sell, Side::Buy) => false,
-    }
+    a == b
 }

@@ -1,8 +1,4 @@
 // Rows of the tables of entries and of levels, and totals in words.
-ghost use Rattle.std.specs.Prelude.{◌≡◌};
-ghost use Rattle.market.specs.Entry.{side_number};
-
-use fix::Side;
 use market::{Entry, Event};
 use std::fmt;
 
@@ -33,18 +29,8 @@ impl fmt::Display for EntryRow {
     }
 }
 
-/// The number of a side in tables.
-pub(crate) fn side_number(side: Side) -> u32
-    ensures value { result ≡ side_number side }
-{
-    match side {
-        Side::Buy => 1,
-        Side::Sell => 2,
-    }
-}
-
 /// What happened over a day. A trade is two entries of kind F, and its lots count once.
-#[derive(Clone, Copy)]
+#[derive(Clone, Copy, Default)]
 pub(crate) struct Totals {
     commands: u64,
     accepted: u64,
@@ -55,17 +41,6 @@ pub(crate) struct Totals {
 }
 
 impl Totals {
-    pub(crate) fn new() -> Totals {
-        Totals {
-            commands: 0,
-            accepted: 0,
-            turned_down: 0,
-            cancelled: 0,
-            fills: 0,
-            lots: 0,
-        }
-    }
-
     pub(crate) fn command(&mut self) {
         self.commands = self.commands.saturating_add(1);
     }

@@ -5,13 +5,13 @@
 // rows of tables, and totals in words
 mod entries;
 
-use crate::entries::{ENTRY_HEADER, EntryRow, LEVEL_HEADER, Totals, side_number};
+use crate::entries::{ENTRY_HEADER, EntryRow, LEVEL_HEADER, Totals};
 use allocation::Policy;
 use anyhow::anyhow;
 use book::{Book, MOST_ENTRIES};
 use console::Feed;
 use fix::Side;
-use market::{Entry, Event, Reason};
+use market::Entry;
 use std::io::Read;
 
 /// Reads messages, back to back, from standard input, puts each through a book, and prints the entries, the closing book and the totals.
@@ -19,16 +19,8 @@ pub fn trade<P: Policy>(rt: &HostRuntime, policy: &P) -> anyhow::Result<()> {
     let mut bytes = Vec::new(rt.alloc());
     rt.stdin().read_to_end(&mut bytes)?;
     let mut book = Book::new(rt.alloc())?;
-    let none = Entry {
-        command: 0,
-        member: 0,
-        order: 0,
-        event: Event::CancelTurnedDown {
-            reason: Reason::UnknownOrder,
-        },
-    };
-    let mut list = vec![in rt.alloc(); none; MOST_ENTRIES]?;
-    let mut totals = Totals::new();
+    let mut list = vec![in rt.alloc(); Entry::BLANK; MOST_ENTRIES]?;
+    let mut totals = Totals::default();
     println!(rt; "{ENTRY_HEADER}")?;
     let mut feed = Feed::new(&bytes);
     // each turn takes a message of at least a byte, or is the last
@@ -63,7 +55,7 @@ pub fn trade<P: Policy>(rt: &HostRuntime, policy: &P) -> anyhow::Result<()> {
 }
 
 fn print_side(rt: &HostRuntime, book: &Book, side: Side) -> anyhow::Result<()> {
-    let number = side_number(side);
+    let number = side.number();
     for place in 0..book.levels(side) {
         let Some(price) = book.price_at(side, place) else {
             break;
