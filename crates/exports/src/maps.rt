@@ -1,8 +1,11 @@
-// Workloads of the ordered maps: a map cannot pass to C, so each makes its own, and answers a sum that the same work in another
+// Workloads of the ordered map: a map cannot pass to C, so each makes its own, and answers a sum that the same work in another
 // language can be held to. Where there is no memory the answer is 0. A price has a value of four bytes, as the number of a queue, and
 // an order one of eight.
-use ordered::{Node, OrderId, OrderMap, Price, PriceMap};
+use ordered::{Key, Node, OrderId, OrderedMap, Price};
 use std::alloc::Global;
+
+// as many as a hall has orders
+const CAPACITY: usize = 1_024;
 
 // Keys that stand among the first 64 members, so that members repeat.
 fn order_id(key: u32) -> OrderId {
@@ -12,96 +15,79 @@ fn order_id(key: u32) -> OrderId {
     }
 }
 
-fn fill_prices(map: &mut PriceMap<u32>, keys: &[u32]) {
+fn put_in<K: Key + Drop, V: From<u32> + Drop>(map: &mut OrderedMap<K, V>, key: K, number: u32) {
+    let _ = map.insert(Node {
+        key,
+        value: V::from(number),
+    });
+}
+
+fn fill<K: Key + Drop, V: From<u32> + Drop, F: Fn(u32) -> K>(
+    map: &mut OrderedMap<K, V>,
+    keys: &[u32],
+    key_of: &F,
+)
+    requires { F.IsAlwaysCallable key_of.now }
+{
     for key in keys {
-        let node = Node {
-            key: Price(*key),
-            value: *key,
-        };
-        let _ = map.insert(node);
+        put_in(map, key_of(*key), *key);
     }
 }
 
-fn fill_orders(map: &mut OrderMap<u64>, keys: &[u32]) {
-    for key in keys {
-        let node = Node {
-            key: order_id(*key),
-            value: *key as u64,
-        };
-        let _ = map.insert(node);
-    }
-}
-
-fn look_up_prices(map: &PriceMap<u32>, sought: &[u32]) -> u64 {
+// The sum of the values that stand under the keys.
+fn looked_up<K: Key + Drop, V: From<u32> + Into<u64> + Copy + Drop, F: Fn(u32) -> K>(
+    heap: Global,
+    keys: &[u32],
+    sought: &[u32],
+    key_of: F,
+) -> u64
+    requires { F.IsAlwaysCallable key_of }
+{
+    let Ok(mut map) = OrderedMap::<K, V>::new(heap, CAPACITY) else {
+        return 0;
+    };
+    fill(&mut map, keys, &key_of);
     let mut sum: u64 = 0;
     for key in sought {
-        if let Some(value) = map.get(&Price(*key)) {
-            sum = sum.wrapping_add(*value as u64);
+        if let Some(value) = map.get(&key_of(*key)) {
+            sum = sum.wrapping_add((*value).into());
         }
     }
     sum
 }
 
-fn look_up_orders(map: &OrderMap<u64>, sought: &[u32]) -> u64 {
-    let mut sum: u64 = 0;
-    for key in sought {
-        if let Some(value) = map.get(&order_id(*key)) {
-            sum = sum.wrapping_add(*value);
-        }
-    }
-    sum
-}
-
-// Each old key comes out, and the new one beside it goes in.
-fn change_prices(map: &mut PriceMap<u32>, old: &[u32], new: &[u32]) -> u64 {
-    let mut sum: u64 = 0;
-    for (out, into) in old.iter().zip(new) {
-        if let Some(node) = map.remove(&Price(*out)) {
-            sum = sum.wrapping_add(node.value as u64);
-        }
-        let node = Node {
-            key: Price(*into),
-            value: *into,
-        };
-        let _ = map.insert(node);
-    }
-    sum
-}
-
-fn change_orders(map: &mut OrderMap<u64>, old: &[u32], new: &[u32]) -> u64 {
+// Each old key comes out, and the new one beside it goes in: the sum of the values that came out.
+fn changed<K: Key + Drop, V: From<u32> + Into<u64> + Copy + Drop, F: Fn(u32) -> K>(
+    heap: Global,
+    keys: &[u32],
+    old: &[u32],
+    new: &[u32],
+    key_of: F,
+) -> u64
+    requires { F.IsAlwaysCallable key_of }
+{
+    let Ok(mut map) = OrderedMap::<K, V>::new(heap, CAPACITY) else {
+        return 0;
+    };
+    fill(&mut map, keys, &key_of);
     let mut sum: u64 = 0;
     for (out, into) in old.iter().zip(new) {
-        if let Some(node) = map.remove(&order_id(*out)) {
-            sum = sum.wrapping_add(node.value);
+        if let Some(node) = map.remove(&key_of(*out)) {
+            sum = sum.wrapping_add(node.value.into());
         }
-        let node = Node {
-            key: order_id(*into),
-            value: *into as u64,
-        };
-        let _ = map.insert(node);
+        put_in(&mut map, key_of(*into), *into);
     }
     sum
 }
-
-// as many as a hall has orders
-const CAPACITY: usize = 1_024;
 
 #[unsafe(no_mangle)]
 pub extern "C" fn lezdamir_prices_looked_up(heap: Global, keys: &[u32], sought: &[u32]) -> u64 {
-    let Ok(mut map) = PriceMap::new(heap, CAPACITY) else {
-        return 0;
-    };
-    fill_prices(&mut map, keys);
-    look_up_prices(&map, sought)
+    looked_up::<Price, u32, _>(heap, keys, sought, |key| Price(key))
 }
 
 #[unsafe(no_mangle)]
 pub extern "C" fn lezdamir_orders_looked_up(heap: Global, keys: &[u32], sought: &[u32]) -> u64 {
-    let Ok(mut map) = OrderMap::new(heap, CAPACITY) else {
-        return 0;
-    };
-    fill_orders(&mut map, keys);
-    look_up_orders(&map, sought)
+    looked_up::<OrderId, u64, _>(heap, keys, sought, order_id)
 }
 
 #[unsafe(no_mangle)]
@@ -111,11 +97,7 @@ pub extern "C" fn lezdamir_prices_changed(
     old: &[u32],
     new: &[u32],
 ) -> u64 {
-    let Ok(mut map) = PriceMap::new(heap, CAPACITY) else {
-        return 0;
-    };
-    fill_prices(&mut map, keys);
-    change_prices(&mut map, old, new)
+    changed::<Price, u32, _>(heap, keys, old, new, |key| Price(key))
 }
 
 #[unsafe(no_mangle)]
@@ -125,9 +107,5 @@ pub extern "C" fn lezdamir_orders_changed(
     old: &[u32],
     new: &[u32],
 ) -> u64 {
-    let Ok(mut map) = OrderMap::new(heap, CAPACITY) else {
-        return 0;
-    };
-    fill_orders(&mut map, keys);
-    change_orders(&mut map, old, new)
+    changed::<OrderId, u64, _>(heap, keys, old, new, order_id)
 }

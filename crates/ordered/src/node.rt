@@ -1,5 +1,5 @@
 // A key with its value.
-#[derive(Drop)]
+#[derive(PartialEq, Eq, Debug, Drop)]
 pub struct Node<K, V> {
     pub key: K,
     pub value: V,

@@ -4,7 +4,7 @@ ghost use Rattle.ordered.specs.Refusal.{number_of};
 use crate::node::Node;
 
 // Why a node was not put in. It is handed back, and the map is as it was.
-#[derive(Drop)]
+#[derive(PartialEq, Eq, Debug, Drop)]
 pub enum InsertRefusal<K, V> {
     // a node with this key stands there
     KeyIsThere(Node<K, V>),
