@@ -174,7 +174,6 @@ impl<K: Key, V> OrderedMap<K, V> {
     }
 
     // The node with the least key.
-    #[tactic(auto, using(crate::proofs::Ends::first_item))]
     pub fn first(&self) -> Option<&Node<K, V>>
         ensures value { option_map (λ x. x.now) result ≡ first_of self.now.nodes }
         ensures sound { Sound K.cmp self.now }
@@ -183,7 +182,6 @@ impl<K: Key, V> OrderedMap<K, V> {
     }
 
     // The node with the greatest key.
-    #[tactic(auto, using(crate::proofs::Ends::last_item))]
     pub fn last(&self) -> Option<&Node<K, V>>
         ensures value { option_map (λ x. x.now) result ≡ last_of self.now.nodes }
         ensures sound { Sound K.cmp self.now }
