@@ -1,10 +1,9 @@
 -- The first node and the last. Assumes nothing.
-use Rattle.std.proofs.Common.{◌≡◌, ◌↔◌, ℕ, zero, suc, ◌<◌, take, drop, length-take, length-drop, IsSome, ◌-◌, true, false, List, [], ◌∷◌, length, get_or, is_some, Some, None, Option, Ordering, Less, sym, refl, ap, ◌∙◌, subst, ⊎_elim, arith, Bor}
+use Rattle.std.proofs.Common.{◌≡◌, ℕ, zero, suc, take, drop, ◌-◌, true, false, List, [], ◌∷◌, length, is_some, Some, None, Ordering, Less, sym, refl, ap, ◌∙◌, subst, ⊎_elim, arith}
 use Rattle.std.specs.List.{slice_get}
 use Rattle.std.specs.Ordering.{is_eq}
 use Rattle.std.proofs.lemmas.Bool.{cases_Bool, true≢false, false≢true}
 use Rattle.ordered.specs.declared.node.Node.{Node}
-use Rattle.ordered.specs.Kept.{Kept, Sound, with_nodes}
 use Rattle.ordered.specs.Order.{Total}
 use Rattle.ordered.specs.Row.{node_with, all_above, ascending, first, last}
 use Rattle.ordered.proofs.Orders.{less_from, equal_from, eq_itself, not_both}
@@ -115,9 +114,3 @@ module _ {K V : Type 0} (order : K → K → Ordering) where
   ascending_take (n ∷ ns) (suc i) up =
       let p = ascending_parts order n ns up in
       ascending_from order n (take i ns) (above_take n.key ns i p.0) (ascending_take ns i p.1)
-
-  pub sound_drop : (map : Kept K V) → Sound order map → Sound order (with_nodes map (drop 1 map.nodes))
-  sound_drop map s = record { ascends = ascending_drop map.nodes s.ascends; inside = omega (arith, s.inside, length-drop 1 map.nodes) }
-
-  pub sound_take : (map : Kept K V) (i : ℕ) → Sound order map → Sound order (with_nodes map (take i map.nodes))
-  sound_take map i s = record { ascends = ascending_take map.nodes i s.ascends; inside = omega (arith, s.inside, length-take i map.nodes) }
