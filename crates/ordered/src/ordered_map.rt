@@ -1,4 +1,4 @@
-ghost use Rattle.std.specs.Prelude.{◌≡◌, ◌<◌, [], length, Some, IfOk, IfErr, MatchResult};
+ghost use Rattle.std.specs.Prelude.{◌≡◌, ◌-◌, ◌<◌, [], length, take, drop, Some, IfOk, IfErr, MatchResult};
 ghost use Rattle.answers.specs.Answer.{if_answered};
 ghost use Rattle.std.specs.Borrow.{sem};
 ghost use Rattle.std.specs.List.{slice_get};
@@ -149,8 +149,33 @@ impl<K: Key, V> OrderedMap<K, V> {
         &self.nodes
     }
 
+    // Takes out the node with the least key.
+    #[tactic(auto, using(crate::proofs::Ends::ascending_drop))]
+    pub fn pop_first(&mut self) -> Option<Node<K, V>>
+        ensures value { result ≡ first_of self.old.nodes }
+        ensures nodes { self.new.nodes ≡ drop 1 self.old.nodes }
+        ensures capacity { self.new.capacity ≡ self.old.capacity }
+        ensures sound { Sound K.cmp self.new }
+    {
+        if self.nodes.is_empty() {
+            None
+        } else {
+            Some(self.nodes.remove(0))
+        }
+    }
+
+    // Takes out the node with the greatest key.
+    #[tactic(auto, using(crate::proofs::Ends::ascending_take))]
+    pub fn pop_last(&mut self) -> Option<Node<K, V>>
+        ensures value { result ≡ last_of self.old.nodes }
+        ensures nodes { self.new.nodes ≡ take (length self.old.nodes - 1) self.old.nodes }
+        ensures capacity { self.new.capacity ≡ self.old.capacity }
+        ensures sound { Sound K.cmp self.new }
+    {
+        self.nodes.pop()
+    }
+
     // The node with the least key.
-    #[tactic(auto, using(crate::proofs::Ends::first_item))]
     pub fn first(&self) -> Option<&Node<K, V>>
         ensures value { option_map (λ x. x.now) result ≡ first_of self.now.nodes }
         ensures sound { Sound K.cmp self.now }
@@ -159,7 +184,6 @@ impl<K: Key, V> OrderedMap<K, V> {
     }
 
     // The node with the greatest key.
-    #[tactic(auto, using(crate::proofs::Ends::last_item))]
     pub fn last(&self) -> Option<&Node<K, V>>
         ensures value { option_map (λ x. x.now) result ≡ last_of self.now.nodes }
         ensures sound { Sound K.cmp self.now }
