@@ -20,7 +20,7 @@ returns-in_err-form c =
     let w = c.in_err-form.field-0.0 in
     let p = err_from_is_err_and c.from_residual.result c.from_residual.ensures.1 in
     let new = c.new-reader.ensures in
-    let f = at_start (λ l a. (form (drop a l) ≡ wrong (drop w.place l)) × (w.place ≤ length l)) _ bs _ new.source new.start c.in_err-form.ensures.reads in
+    let f = at_start (λ l a. (form (drop a l) ≡ wrong (drop w.place l)) × (w.place ≤ length l)) _ bs _ new.source new.start c.in_err-form.ensures.walked.reads in
     record {
       answer = rw p.1 (ap refusal p.2 ∙ sym (first_wrong bs _ f.1 f.0));
       inside = rw p.1 (rw p.2 f.1);
@@ -33,8 +33,8 @@ formed c =
     let at = c.read_form.new.reader.at in
     let found = c.in_ok-form.form in
     let is = at_start (λ l a. form (drop a l) ≡ right (form_of l found) (drop at l)) _ bs _ new.source new.start
-    (c.in_ok-form.ensures.reads ∙ ap (λ l. right (form_of c.new-reader.result.bytes.now found) (drop at l)) c.read_form.ensures.source) in
-    let same = ap length (c.read_form.ensures.source ∙ new.source) in
+    (c.in_ok-form.ensures.walked.reads ∙ ap (λ l. right (form_of c.new-reader.result.bytes.now found) (drop at l)) c.in_ok-form.ensures.walked.source) in
+    let same = ap length (c.in_ok-form.ensures.walked.source ∙ new.source) in
     let inside : at ≤ length bs = omega (arith, same, c.read_form.new.reader.inside) in
     first_formed bs _ at is inside
 
