@@ -9,8 +9,7 @@ use Rattle.fix.specs.Message.{form, checked, with_length, parse_first, render}
 use Rattle.fix.specs.Refusal.{refusal}
 use Rattle.fix.specs.Step.{form_of}
 use Rattle.fix.proofs.Checks.{at_start, first_wrong, first_formed}
-use Rattle.fix.proofs.Lengths.{body_length, render_length}
-use Rattle.fix.proofs.Whole.{first_read_is_written}
+use Rattle.fix.proofs.Whole.{first_takes}
 use Rattle.fix.proofs.reading.read_first.Goals as goal
 use Rattle.fix.proofs.reading.read_first.Goals.{In_ok-form}
 
@@ -61,8 +60,4 @@ returns c =
     let command = figures c.in_ok-command.command in
     let is : answered (command, c.place.result) ≡ parse_first bs =
     ap (λ n. answered (command, n)) c.place.ensures.value ∙ ap (with_length at) c.in_ok-command.ensures.answer ∙ sym (formed (goal.at.returns c).In_ok-form) in
-    let taken = first_read_is_written bs command c.place.result (sym is) in
-    let size = body_length command taken.3 in
-    let long = render_length command taken.3 in
-    let whole = ap length taken.1 ∙ length-append (render command) taken.0 in
-    record { answer = is; inside = (omega (arith, taken.2), omega (arith, taken.2)) }
+    record { answer = is; inside = first_takes bs command c.place.result (sym is) }
