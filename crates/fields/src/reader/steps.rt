@@ -92,9 +92,7 @@ fn find(bytes: &[u8], x: u8) -> Option<usize>
 }
 
 /// Every number's field has one spelling, whatever its tag and its range.
-pub fn every_spelling_is_read_back() -> u8
+pub fn every_spelling_is_read_back()
     ensures back { WrittenIsRead }
     ensures only { ReadIsWritten }
-{
-    0
-}
+{}
