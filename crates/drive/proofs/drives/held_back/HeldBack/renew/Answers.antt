@@ -1,31 +1,44 @@
-use Rattle.std.proofs.Common.{◌≡◌, ℕ, ◌<◌, length, get_or, refl, ap, ◌∙◌, inl, inr, ⊎_elim, arith}
-use Rattle.drive.specs.Block.{whole}
-use Rattle.drive.specs.HeldBack.{view, lies_under, held_visible}
-use Rattle.drive.specs.Views.{renew_here, renew_other}
+use Rattle.std.proofs.Common.{◌≡◌, length, map, sym, ap, ◌∙◌, subst, arith}
+use Rattle.std.specs.List.{All}
+use Rattle.std.specs.Prelude.{slice_set}
+use Rattle.std.proofs.Math.ListN.{get_or-map}
+use Rattle.std.proofs.lemmas.List.Elements.{All-set}
+use Rattle.arrayvec.specs.ArrayVec.{with_items}
+use Rattle.drive.specs.Block.{block_size}
+use Rattle.drive.specs.HeldBack.{held_block, held_visible, held_medium}
+use Rattle.drive.specs.Held.{over, held_written}
+use Rattle.drive.specs.Medium.{Written}
+use Rattle.drive.specs.Views.{blank, with_bytes, renewed, renewed_numbers, rewritten, renew_here, renew_other, same_below, same_apart}
 use Rattle.drive.proofs.drives.held_back.HeldBack.renew.Goals as goal
 
-pub returns : goal.returns
-returns c =
+pub invariant_of-self : goal.invariant_of-self
+invariant_of-self c =
     let d = c.args.self.now in
+    let held = d.held.items in
     let i = c.args.i in
-    let at = get_or d.places i 0 in
     let bytes = c.args.bytes.now in
-    let store = c.copy_in.new.memory in
-    let puts = c.copy_in.ensures.puts in
-    let within : i < whole (length d.store) = omega arith in
-    let here : view d.places store d.held at (lies_under d at) ≡ bytes =
-    ap (λ s. view d.places s d.held at (lies_under d at)) puts
-    ∙ renew_here d.places d.store d.held i bytes d.apart c.requires.taken within c.requires.size (lies_under d at) in
-    let other : (b : ℕ) → (b ≡ at → ⊥) → view d.places store d.held b (lies_under d b) ≡ (held_visible d).shown b = λ b ne.
-    ap (λ s. view d.places s d.held b (lies_under d b)) puts
-    ∙ renew_other d.places d.store d.held i bytes d.apart c.requires.taken within c.requires.size b (lies_under d b) ne in
+    let is = rewritten d.held c.deref_mut.result.now i bytes c.deref_mut.ensures.value in
+    let numbers = ap (map (λ g. g.number)) is ∙ renewed_numbers held i bytes in
     record {
-      writes = record {
-        as_many = refl;
-        here = here;
-        gains = λ x s. ⊎_elim (λ e. inl (inl e)) (λ e. inr (e ∙ here)) s;
-        others = λ b _ ne. record { same = other b ne; keeps = λ x s. ⊎_elim (λ e. inl e) (λ e. inr (e ∙ other b ne)) s; stays = λ s. s };
-      };
-      memory = refl;
-      numbers = refl;
+      sized = subst (All (λ g. length g.bytes ≡ block_size)) (sym is) (All-set (λ g. length g.bytes ≡ block_size) held i (with_bytes held i bytes) (omega arith) d.sized);
+      below = same_below _ held (held_visible d).count numbers d.below;
+      apart = same_apart _ held numbers d.apart;
     }
+
+pub returns-clause-writes : goal.returns-clause-writes
+returns-clause-writes c =
+    let d = c.args.self.now in
+    let held = d.held.items in
+    let i = c.args.i in
+    let bytes = c.args.bytes.now in
+    let lent = c.deref_mut.result.now in
+    let is = rewritten d.held lent i bytes c.deref_mut.ensures.value in
+    subst (λ b. Written (held_medium d) b bytes (over d.memory.items (with_items d.held (renewed lent i bytes)).items)) (sym (get_or-map (λ g. g.number) held i blank))
+    (held_written d (with_items d.held (renewed lent i bytes)).items (with_bytes held i bytes)
+    (ap (λ hs. held_block hs (with_bytes held i bytes).number) is ∙ renew_here held i bytes d.apart c.requires.held)
+    (λ b ne. ap (λ hs. held_block hs b) is ∙ renew_other held i bytes d.apart c.requires.held b ne))
+
+pub returns-clause-numbers : goal.returns-clause-numbers
+returns-clause-numbers c =
+    ap (map (λ g. g.number)) (rewritten c.args.self.now.held c.deref_mut.result.now c.args.i c.args.bytes.now c.deref_mut.ensures.value)
+    ∙ renewed_numbers c.args.self.now.held.items c.args.i c.args.bytes.now
