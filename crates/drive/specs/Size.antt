@@ -5,11 +5,10 @@ use Rattle.std.proofs.Common.{inl, inr, arith, length-take, length-drop}
 use Rattle.std.proofs.lemmas.Bool.{cases_eq, eq-eqb, ne_eqb}
 use Rattle.drive.specs.Block.{block_size, whole}
 use Rattle.drive.specs.Medium.{Sized}
-use Rattle.drive.specs.Plain.{bare_visible, plain_visible}
+use Rattle.drive.specs.Plain.{bare_visible}
 use Rattle.drive.specs.HeldBack.{view, lies_under, held_visible}
 use Rattle.drive.specs.declared.drives.held_back.HeldBack.{HeldBack}
 use Rattle.drive.specs.declared.drives.held_back.HeldBlock.{HeldBlock}
-use Rattle.drive.specs.declared.drives.plain.Plain.{Plain}
 
 -- a block below the count lies within
 pub within : (size b : ℕ) → b < whole size → b * block_size + block_size ≤ size
@@ -17,9 +16,6 @@ within size b h = omega arith
 
 pub bare_sized : (memory : List ℕ) → Sized (bare_visible memory)
 bare_sized memory b h = let w = within (length memory) b h in simp (length-take, length-drop) (omega arith)
-
-pub plain_sized : (d : Plain) → Sized (plain_visible d)
-plain_sized d = bare_sized (vec_items d.memory)
 
 view_sized : (held : List HeldBlock) (b : ℕ) (under : List ℕ) → All (λ h. length h.bytes ≡ block_size) held → length under ≡ block_size → length (view held b under) ≡ block_size
 view_sized [] b under sized e = e

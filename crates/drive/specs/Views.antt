@@ -5,7 +5,7 @@ use Rattle.std.specs.Option.{option_or}
 use Rattle.std.proofs.Common.{sym, ap, ◌∙◌, inl, inr, arith, subst}
 use Rattle.std.proofs.lemmas.Bool.{cases_lt, lt-ltb, eq-eqb, ne_eqb, eqb-true, eqb-false, false≢true}
 use Rattle.std.proofs.Math.ListN.{get_or-map}
-use Rattle.std.proofs.lemmas.List.{length-map, length-set}
+use Rattle.std.proofs.lemmas.List.{length-set}
 use Rattle.std.proofs.Math.Seq.{map-set_same}
 use Rattle.std.proofs.lemmas.List.Quantifiers.{position-Some}
 use Rattle.std.proofs.lemmas.List.Folds.{find_at, find-set, find_past, find-append}
@@ -57,6 +57,15 @@ renewed held i bytes = slice_set held i (with_bytes held i bytes)
 pub renewed_numbers : (held : List HeldBlock) (i : ℕ) (bytes : List ℕ) → map (λ h. h.number) (renewed held i bytes) ≡ map (λ h. h.number) held
 renewed_numbers held i bytes = map-set_same (λ h. h.number) held i (with_bytes held i bytes) blank refl
 
+renewed_number : (held : List HeldBlock) (i k : ℕ) (bytes : List ℕ) (d : HeldBlock) → (slice_index_or (renewed held i bytes) k d).number ≡ (slice_index_or held k d).number
+renewed_number held i k bytes d =
+    sym (get_or-map (λ h. h.number) (renewed held i bytes) k d) ∙ ap (λ ns. slice_index_or ns k d.number) (renewed_numbers held i bytes) ∙ get_or-map (λ h. h.number) held k d
+
+pub renewed_apart : (held : List HeldBlock) (i : ℕ) (bytes : List ℕ) → Apart held → Apart (renewed held i bytes)
+renewed_apart held i bytes apart j k d l h e =
+    let long = length-set held i (with_bytes held i bytes) in
+    apart j k d l (omega arith) (sym (renewed_number held i j bytes d) ∙ e ∙ renewed_number held i k bytes d)
+
 module _ (held : List HeldBlock) (i : ℕ) (bytes : List ℕ) (apart : Apart held) (there : i < length held) where
   abbrev number : ℕ
   number = (slice_index_or held i blank).number
@@ -85,19 +94,6 @@ module _ (held : List HeldBlock) (h : HeldBlock) where
 
   pub last_here : IsNone (held_block held h.number) → held_block (held ++ h ∷ []) h.number ≡ Some h
   last_here none = find-append (λ g. g.number == h.number) held (h ∷ []) ∙ rw (none_is (held_block held h.number) none, eq-eqb h.number h.number refl) refl
-
--- rows with the same numbers
-same_number : (xs ys : List HeldBlock) → map (λ h. h.number) xs ≡ map (λ h. h.number) ys → (k : ℕ) (d : HeldBlock) → (slice_index_or xs k d).number ≡ (slice_index_or ys k d).number
-same_number xs ys same k d = sym (get_or-map (λ h. h.number) xs k d) ∙ ap (λ ns. slice_index_or ns k d.number) same ∙ get_or-map (λ h. h.number) ys k d
-
-same_long : (xs ys : List HeldBlock) → map (λ h. h.number) xs ≡ map (λ h. h.number) ys → length xs ≡ length ys
-same_long xs ys same = sym (length-map xs (λ h. h.number)) ∙ ap length same ∙ length-map ys (λ h. h.number)
-
-pub same_below : (xs ys : List HeldBlock) (n : ℕ) → map (λ h. h.number) xs ≡ map (λ h. h.number) ys → All (λ h. h.number < n) ys → All (λ h. h.number < n) xs
-same_below xs ys n same below k d l = let long = same_long xs ys same in subst (λ m. m < n) (sym (same_number xs ys same k d)) (below k d (omega arith))
-
-pub same_apart : (xs ys : List HeldBlock) → map (λ h. h.number) xs ≡ map (λ h. h.number) ys → Apart ys → Apart xs
-same_apart xs ys same apart i j d l h e = let long = same_long xs ys same in apart i j d l (omega arith) (sym (same_number xs ys same i d) ∙ e ∙ same_number xs ys same j d)
 
 -- what the place of a number says of what is held for it
 pub placed : (held : List HeldBlock) (b i : ℕ) → position (λ h. h.number == b) held ≡ Some i → (slice_index (map (λ h. h.number) held) i ≡ b) × (held_block held b ≡ Some (slice_index_or held i blank))

@@ -4,7 +4,7 @@ ghost use Rattle.drive.specs.Block.{put};
 ghost use Rattle.drive.specs.Medium.{Written, Flushed};
 ghost use Rattle.drive.specs.Plain.{plain_visible, plain_durable, plain_medium};
 ghost use Rattle.drive.specs.Refusal.{answer, tested};
-ghost use Rattle.drive.specs.Size.{plain_sized};
+ghost use Rattle.drive.specs.Size.{bare_sized};
 ghost use Rattle.std.proofs.Common.{rules};
 
 use crate::blocks::{blocks, copy_in, test};
@@ -45,7 +45,7 @@ impl ReadDrive for Plain {
         Ok(())
     }
 
-    ghost sized = { plain_sized };
+    ghost sized = { λ d. bare_sized d.memory.items };
 }
 
 impl Drive for Plain {

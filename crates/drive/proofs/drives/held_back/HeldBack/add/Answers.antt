@@ -15,6 +15,7 @@ invariant_of-self c =
     let h : HeldBlock = record { number = c.args.at; bytes = c.args.bytes.now } in
     let is = sym c.push.ensures.items in
     record {
+      few = omega arith;
       sized = subst (All (λ g. length g.bytes ≡ block_size)) is (All-push (λ g. length g.bytes ≡ block_size) d.held.items h d.sized (omega arith));
       below = subst (All (λ g. g.number < (held_visible d).count)) is (All-push (λ g. g.number < (held_visible d).count) d.held.items h d.below c.requires.below);
       apart = subst Apart is (all_pairs_push (λ f g. f.number ≡ g.number → ⊥) d.held.items h d.apart (none_has d.held.items c.args.at c.requires.absent));

@@ -1,14 +1,15 @@
-use Rattle.std.proofs.Common.{◌≡◌, length, map, sym, ap, ◌∙◌, subst, arith}
+use Rattle.std.proofs.Common.{◌≡◌, ◌<◌, ◌≤◌, length, map, sym, ap, ◌∙◌, subst, arith}
 use Rattle.std.specs.List.{All}
 use Rattle.std.specs.Prelude.{slice_set}
 use Rattle.std.proofs.Math.ListN.{get_or-map}
+use Rattle.std.proofs.lemmas.List.{length-set}
 use Rattle.std.proofs.lemmas.List.Elements.{All-set}
 use Rattle.arrayvec.specs.ArrayVec.{with_items}
 use Rattle.drive.specs.Block.{block_size}
 use Rattle.drive.specs.HeldBack.{held_block, held_visible, held_medium}
 use Rattle.drive.specs.Held.{over, held_written}
 use Rattle.drive.specs.Medium.{Written}
-use Rattle.drive.specs.Views.{blank, with_bytes, renewed, renewed_numbers, rewritten, renew_here, renew_other, same_below, same_apart}
+use Rattle.drive.specs.Views.{Apart, blank, with_bytes, renewed, renewed_numbers, renewed_apart, rewritten, renew_here, renew_other}
 use Rattle.drive.proofs.drives.held_back.HeldBack.renew.Goals as goal
 
 pub invariant_of-self : goal.invariant_of-self
@@ -17,12 +18,14 @@ invariant_of-self c =
     let held = d.held.items in
     let i = c.args.i in
     let bytes = c.args.bytes.now in
-    let is = rewritten d.held c.deref_mut.result.now i bytes c.deref_mut.ensures.value in
-    let numbers = ap (map (λ g. g.number)) is ∙ renewed_numbers held i bytes in
+    let h = with_bytes held i bytes in
+    let is = sym (rewritten d.held c.deref_mut.result.now i bytes c.deref_mut.ensures.value) in
+    let long = length-set held i h in
     record {
-      sized = subst (All (λ g. length g.bytes ≡ block_size)) (sym is) (All-set (λ g. length g.bytes ≡ block_size) held i (with_bytes held i bytes) (omega arith) d.sized);
-      below = same_below _ held (held_visible d).count numbers d.below;
-      apart = same_apart _ held numbers d.apart;
+      few = subst (λ hs. length hs ≤ 16) is (let few = d.few in omega arith);
+      sized = subst (All (λ g. length g.bytes ≡ block_size)) is (All-set (λ g. length g.bytes ≡ block_size) held i h (omega arith) d.sized);
+      below = subst (All (λ g. g.number < (held_visible d).count)) is (All-set (λ g. g.number < (held_visible d).count) held i h (d.below i blank c.requires.held) d.below);
+      apart = subst Apart is (renewed_apart held i bytes d.apart);
     }
 
 pub returns-clause-writes : goal.returns-clause-writes
