@@ -162,7 +162,7 @@ pub out_flushed : (d e : HeldBack) → PutOut d e → e.held.items ≡ [] → Fl
 out_flushed d e p none = record { as_many = ap whole p.size; same = λ b h. p.same b; settles = λ b h. ap (λ hs. is_some (held_block hs b)) none }
 
 -- a write after some were put out
-pub out_written : (d m e : HeldBack) (at : ℕ) (bytes : List ℕ) → PutOut d m → Written (held_medium m) at bytes (held_medium e) → Written (held_medium d) at bytes (held_medium e)
+pub out_written : (d m : HeldBack) (e : Medium) (at : ℕ) (bytes : List ℕ) → PutOut d m → Written (held_medium m) at bytes e → Written (held_medium d) at bytes e
 out_written d m e at bytes p w =
     let n : (held_visible m).count ≡ (held_visible d).count = ap whole p.size in
     record {

@@ -1,5 +1,5 @@
 -- What is held for a block, as one is renewed, added or put out.
-use Rattle.std.specs.Prelude.{◌≡◌, ℕ, suc, ◌+◌, ◌<◌, Option, Some, None, IsNone, IsSome, List, [], ◌∷◌, ◌++◌, length, ◌≢◌, ◌==◌, is_some, Bool, slice_get, slice_set, slice_index, slice_index_or, map, refl}
+use Rattle.std.specs.Prelude.{◌≡◌, ℕ, suc, ◌+◌, ◌<◌, Option, Some, None, IsNone, List, [], ◌∷◌, ◌++◌, length, ◌≢◌, ◌==◌, is_some, Bool, slice_get, slice_set, slice_index_or, map, refl}
 use Rattle.std.specs.List.{All, AllPairs, position, position_or_len}
 use Rattle.std.specs.Option.{option_or}
 use Rattle.std.proofs.Common.{sym, ap, ◌∙◌, inl, inr, arith, subst}
@@ -96,11 +96,13 @@ module _ (held : List HeldBlock) (h : HeldBlock) where
   last_here none = find-append (λ g. g.number == h.number) held (h ∷ []) ∙ rw (none_is (held_block held h.number) none, eq-eqb h.number h.number refl) refl
 
 -- what the place of a number says of what is held for it
-pub placed : (held : List HeldBlock) (b i : ℕ) → position (λ h. h.number == b) held ≡ Some i → (slice_index (map (λ h. h.number) held) i ≡ b) × (held_block held b ≡ Some (slice_index_or held i blank))
+pub placed : (held : List HeldBlock) (b i : ℕ) → position (λ h. h.number == b) held ≡ Some i
+    → (i < length held) × ((slice_index_or held i blank).number ≡ b) × (held_block held b ≡ Some (slice_index_or held i blank))
 placed held b i place =
     let at = position-Some (λ h. h.number == b) held i blank place in
     let first = position_or_len_is (λ h. h.number == b) held i blank (omega (arith, at.0)) at.2 (λ _. at.1) in (
-      get_or-map (λ h. h.number) held i blank ∙ eqb-true (slice_index_or held i blank).number b at.1,
+      at.0,
+      eqb-true (slice_index_or held i blank).number b at.1,
       find_at (λ h. h.number == b) held ∙ ap (slice_get held) first ∙ slice_get-get_or held i blank at.0,
     )
 

@@ -26,31 +26,6 @@ impl HeldBack {
         }
     }
 
-    // Holds new bytes of a block that is held already.
-    fn renew(&mut self, i: usize, bytes: &[u8; BLOCK_SIZE])
-        requires held { i < length self.old.held.items }
-        ensures writes { Written (held_medium self.old) (slice_index (held_numbers self.old) i) bytes.now (held_medium self.new) }
-        ensures memory { self.new.memory ≡ self.old.memory }
-        ensures numbers { held_numbers self.new ≡ held_numbers self.old }
-    {
-        self.held[i].bytes = *bytes;
-    }
-
-    // Holds a block that is not held yet.
-    fn add(&mut self, at: usize, bytes: &[u8; BLOCK_SIZE])
-        requires room { length self.old.held.items < most_held }
-        requires below { at < (held_visible self.old).count }
-        requires absent { IsNone (held_block self.old.held.items at) }
-        ensures writes { Written (held_medium self.old) at bytes.now (held_medium self.new) }
-        ensures memory { self.new.memory ≡ self.old.memory }
-        ensures numbers { held_numbers self.new ≡ held_numbers self.old ++ at ∷ [] }
-    {
-        self.held.push(HeldBlock {
-            number: at,
-            bytes: *bytes,
-        });
-    }
-
     // Puts out the block that came last.
     fn put_last_out(&mut self)
         requires some { 0 < length self.old.held.items }
@@ -82,10 +57,13 @@ impl HeldBack {
         ensures holds { Holds self.old at self.new }
     {
         match self.place_of(at) {
-            Some(i) => self.renew(i, bytes),
+            Some(i) => self.held[i].bytes = *bytes,
             None => {
                 self.make_room();
-                self.add(at, bytes);
+                self.held.push(HeldBlock {
+                    number: at,
+                    bytes: *bytes,
+                });
             }
         }
     }

@@ -9,7 +9,7 @@ pub returns-in-Some : goal.returns-in-Some
 returns-in-Some c =
     let d = c.args.self.now in
     let found = placed d.held.items c.args.at c.in-Some.i (sym c.in-Some.ensures.value) in
-    record { value = ap (λ hs. (slice_index_or hs c.in-Some.i blank).bytes) c.deref.ensures.0 ∙ sym (seen d.held.items c.args.at (slice_index_or d.held.items c.in-Some.i blank) (lies_under d c.args.at) found.1) }
+    record { value = ap (λ hs. (slice_index_or hs c.in-Some.i blank).bytes) c.deref.ensures.0 ∙ sym (seen d.held.items c.args.at (slice_index_or d.held.items c.in-Some.i blank) (lies_under d c.args.at) found.2) }
 
 pub returns-in-None : goal.returns-in-None
 returns-in-None c =
