@@ -1,7 +1,7 @@
 -- What the test of a call tells, and what a call that was answered did.
-use Rattle.std.proofs.Common.{◌≡◌, ℕ, ◌<◌, Bool, true, false, cond, eqb, ltb, List, [], is_ok, Ok, Err, Result, sym, refl, ap, ◌∙◌, arith, MatchResult}
-use Rattle.std.proofs.lemmas.Bool.{lt-ltb, le-ltb, eq-eqb, ne_eqb, ltb-true, eqb-true}
-use Rattle.answers.specs.Answer.{answered, refused, if_answered}
+use Rattle.std.proofs.Common.{◌≡◌, ℕ, ◌<◌, true, List, is_ok, Ok, Err, Result, sym, refl, ◌∙◌, arith, MatchResult}
+use Rattle.std.proofs.lemmas.Bool.{lt-ltb, le-ltb, eq-eqb, ne_eqb}
+use Rattle.answers.specs.Answer.{answered, refused}
 use Rattle.drive.specs.declared.refusal.DriveRefusal.{DriveRefusal}
 use Rattle.drive.specs.Block.{block_size}
 use Rattle.drive.specs.Refusal.{answer, tested, TestsAsTold}

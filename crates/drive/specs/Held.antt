@@ -13,7 +13,7 @@ use Rattle.drive.specs.Block.{block_size, whole, block, put, spare, joined}
 use Rattle.drive.specs.HeldBack.{view, held_block, lies_under, held_numbers, held_visible, held_durable, held_medium, last_held, last_put_out, all_put_out, PutOut}
 use Rattle.drive.specs.Medium.{Medium, Written, Flushed, Sound}
 use Rattle.drive.specs.Memory.{memory_joined, joined_same, length_put, block_put, block_put_other, spare_put}
-use Rattle.drive.specs.Views.{NoneHas, none_held, none_is, last_here, last_other}
+use Rattle.drive.specs.Views.{none_held, none_is, last_here, last_other}
 
 -- what is shown of a block, once it is known what is held of it
 pub seen : (held : List HeldBlock) (b : ℕ) (h : HeldBlock) (under : List ℕ) → held_block held b ≡ Some h → view held b under ≡ h.bytes

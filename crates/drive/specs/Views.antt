@@ -1,5 +1,5 @@
 -- What is held for a block, as one is renewed, added or put out.
-use Rattle.std.specs.Prelude.{◌≡◌, ℕ, suc, ◌+◌, ◌<◌, Option, Some, None, IsNone, List, [], ◌∷◌, ◌++◌, length, ◌≢◌, ◌==◌, is_some, Bool, slice_get, slice_set, slice_index_or, map, refl}
+use Rattle.std.specs.Prelude.{◌≡◌, ℕ, suc, ◌<◌, Option, Some, None, IsNone, List, [], ◌∷◌, ◌++◌, length, ◌≢◌, ◌==◌, is_some, Bool, slice_get, slice_set, slice_index_or, map, refl}
 use Rattle.std.specs.List.{All, AllPairs, position, position_or_len}
 use Rattle.std.specs.Option.{option_or}
 use Rattle.std.proofs.Common.{sym, ap, ◌∙◌, inl, inr, arith, subst}

@@ -29,7 +29,7 @@ pub(crate) fn blocks(memory: &[u8]) -> &[[u8; BLOCK_SIZE]]
     memory.as_chunks().0
 }
 
-// Puts `bytes` into block `at` of `memory`.
+// Puts `bytes` into block `at` of `memory`. It goes by bytes, since of memory that `as_chunks_mut` lent the library says nothing afterwards.
 pub(crate) fn copy_in(memory: &mut [u8], at: usize, bytes: &[u8; BLOCK_SIZE])
     requires within { at < whole (length memory.old) }
     ensures puts { memory.new ≡ put memory.old at bytes.now }

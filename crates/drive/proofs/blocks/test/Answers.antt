@@ -1,5 +1,4 @@
-use Rattle.std.proofs.Common.{rules, arith, tests}
-use Rattle.std.proofs.lemmas.Bool.{le-ltb, lt-ltb}
+use Rattle.std.proofs.Common.{arith, tests}
 use Rattle.drive.specs.Refusal.{tested}
 use Rattle.drive.proofs.blocks.test.Goals as goal
 

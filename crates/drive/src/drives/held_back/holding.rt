@@ -1,6 +1,6 @@
-ghost use Rattle.std.specs.Prelude.{◌≡◌, ◌+◌, ◌<◌, [], ◌∷◌, ◌++◌, length, slice_index, ◌==◌, IsNone};
+ghost use Rattle.std.specs.Prelude.{◌≡◌, ◌+◌, ◌<◌, [], length, ◌==◌};
 ghost use Rattle.std.specs.List.{position};
-ghost use Rattle.drive.specs.HeldBack.{most_held, held_block, held_visible, held_medium, held_numbers, last_put_out, all_put_out, Holds, PutOut};
+ghost use Rattle.drive.specs.HeldBack.{most_held, held_visible, held_medium, last_put_out, all_put_out, Holds, PutOut};
 ghost use Rattle.drive.specs.Medium.{Written};
 
 use crate::blocks::{blocks, copy_in};
@@ -33,9 +33,10 @@ impl HeldBack {
         ensures memory { self.new.memory.items ≡ last_put_out self.old }
         ensures out { PutOut self.old self.new }
     {
-        if let Some(last) = self.held.pop() {
-            copy_in(self.memory.as_mut_slice(), last.number, &last.bytes);
-        }
+        // read where it lies: a block that is popped first is copied once more
+        let last = &self.held[self.held.len() - 1];
+        copy_in(self.memory.as_mut_slice(), last.number, &last.bytes);
+        self.held.pop();
     }
 
     // Puts out the block that came last, if there is room for no other.

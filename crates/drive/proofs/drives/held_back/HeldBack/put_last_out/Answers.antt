@@ -1,22 +1,35 @@
-use Rattle.std.proofs.Common.{ap, ◌∙◌, ◌++◌}
+use Rattle.std.proofs.Common.{◌≡◌, ◌-◌, ◌<◌, List, Option, [], ◌∷◌, ◌++◌, length, slice_get, slice_index_or, ap, ◌∙◌, arith}
 use Rattle.std.specs.Option.{option_to_list}
+use Rattle.std.proofs.lemmas.Option.{slice_get-get_or}
+use Rattle.drive.specs.Block.{put}
 use Rattle.drive.specs.Held.{last_fits, last_sized, last_memory, out_last}
 use Rattle.drive.specs.Memory.{refilled_put}
+use Rattle.drive.specs.Views.{blank}
+use Rattle.drive.specs.declared.drives.held_back.HeldBlock.{HeldBlock}
 use Rattle.drive.proofs.drives.held_back.HeldBack.put_last_out.Goals as goal
 
-pub returns-in-Some-clause-memory : goal.returns-in-Some-clause-memory
-returns-in-Some-clause-memory c =
-    let d = c.args.self.now in
-    let h = c.in-Some.last in
-    let held = c.pop.new.self.items in
-    let was = c.pop.ensures.items ∙ ap (λ o. held ++ option_to_list o) c.in-Some.is in
-    let is = refilled_put d.memory _ _ h.number h.bytes (last_fits d d.memory.items held h was) (last_sized d d.memory.items held h was) c.copy_in.ensures.puts c.as_mut_slice.ensures.value in
-    last_memory d _ held h was is
+-- the last of a row stands behind the others
+taken : (before after : List HeldBlock) (o : Option HeldBlock) → 0 < length before → before ≡ after ++ option_to_list o → o ≡ slice_get before (length before - 1)
+    → before ≡ after ++ slice_index_or before (length before - 1) blank ∷ []
+taken before after o some items value = items ∙ ap (λ p. after ++ option_to_list p) (value ∙ slice_get-get_or before (length before - 1) blank (omega arith))
 
-pub returns-in-Some-clause-out : goal.returns-in-Some-clause-out
-returns-in-Some-clause-out c =
+pub returns-clause-memory : goal.returns-clause-memory
+returns-clause-memory c =
     let d = c.args.self.now in
-    let h = c.in-Some.last in
     let held = c.pop.new.self.items in
-    let was = c.pop.ensures.items ∙ ap (λ o. held ++ option_to_list o) c.in-Some.is in
-    out_last d _ h was (refilled_put d.memory _ _ h.number h.bytes (last_fits d d.memory.items held h was) (last_sized d d.memory.items held h was) c.copy_in.ensures.puts c.as_mut_slice.ensures.value)
+    let h = slice_index_or d.held.items (length d.held.items - 1) blank in
+    let was = taken d.held.items held c.pop.result c.requires.some c.pop.ensures.items c.pop.ensures.value in
+    let same = ap (λ hs. slice_index_or hs (c.len.result - 1) blank) c.deref.ensures.0 ∙ ap (λ n. slice_index_or d.held.items (n - 1) blank) c.len.ensures.value in
+    let puts = c.copy_in.ensures.puts ∙ ap (λ g. put c.as_mut_slice.result.now g.number g.bytes) same in
+    last_memory d _ held h was
+    (refilled_put d.memory _ _ h.number h.bytes (last_fits d d.memory.items held h was) (last_sized d d.memory.items held h was) puts c.as_mut_slice.ensures.value)
+
+pub returns-clause-out : goal.returns-clause-out
+returns-clause-out c =
+    let d = c.args.self.now in
+    let held = c.pop.new.self.items in
+    let h = slice_index_or d.held.items (length d.held.items - 1) blank in
+    let was = taken d.held.items held c.pop.result c.requires.some c.pop.ensures.items c.pop.ensures.value in
+    let same = ap (λ hs. slice_index_or hs (c.len.result - 1) blank) c.deref.ensures.0 ∙ ap (λ n. slice_index_or d.held.items (n - 1) blank) c.len.ensures.value in
+    let puts = c.copy_in.ensures.puts ∙ ap (λ g. put c.as_mut_slice.result.now g.number g.bytes) same in
+    out_last d _ h was (refilled_put d.memory _ _ h.number h.bytes (last_fits d d.memory.items held h was) (last_sized d d.memory.items held h was) puts c.as_mut_slice.ensures.value)
