@@ -25,18 +25,3 @@ invariant_of-self c =
       reserved = omega (arith, c.remove-taken.ensures.capacity, level.reserved);
     }
 
-pub returns-in-None : goal.returns-in-None
-returns-in-None c =
-    let same = c.as_slice.ensures.value in
-    record {
-      value = sym c.in-None.ensures.value.0 ∙ ap (in_queue c.args.member c.args.order) same;
-      queue = sym same ∙ sym c.in-None.ensures.value.1 ∙ ap (out_of_queue c.args.member c.args.order) same;
-    }
-
-pub returns-in-Some : goal.returns-in-Some
-returns-in-Some c =
-    let q = vec_items c.args.self.now.queue in
-    record {
-      value = sym (taken_is c.args.member c.args.order c.as_slice.result.now q c.in-Some.place c.as_slice.ensures.value c.remove-taken.result c.in-Some.ensures.value.2 c.remove-taken.ensures.value);
-      queue = left_is c.args.member c.args.order c.as_slice.result.now q c.in-Some.place c.as_slice.ensures.value (vec_items c.remove-taken.new.self) c.in-Some.ensures.value.1 c.remove-taken.ensures.items;
-    }
