@@ -7,8 +7,6 @@ ghost use Rattle.sealed.specs.Sealing.{sealing};
 ghost use Rattle.sealed.specs.Zero.{all_zero};
 ghost use Rattle.std.specs.Prelude.{◌≡◌};
 
-use sealed::SealRefusal;
-
 #[unsafe(no_mangle)]
 pub extern "C" fn lezdamir_crc32c(bytes: &[u8]) -> u32
     ensures value { result ≡ crc bytes.now }
@@ -42,6 +40,6 @@ pub extern "C" fn lezdamir_seal(payload: &[u8], block: &mut [u8; 512]) -> u32
 {
     match sealed::seal(payload, block) {
         Ok(()) => 0,
-        Err(SealRefusal::PayloadLength { .. }) => 92,
+        Err(refusal) => refusal.number(),
     }
 }

@@ -56,6 +56,7 @@ pub(crate) fn take_off(queue: &mut Vec<Resting>, fills: &[u32])
     ensures items { queue.new.items ≡ after_fills fills.now queue.old.items }
     ensures memory { vec_capacity queue.new ≡ vec_capacity queue.old }
 {
+    // by places: `retain_mut` would take a closure that goes on with the fills, and no lemma speaks of one that changes what it captures
     let mut stay: usize = 0;
     for (i, fill) in fills.iter().enumerate() {
         let order = queue[i];
