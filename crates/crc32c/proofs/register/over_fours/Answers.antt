@@ -1,4 +1,4 @@
-use Rattle.std.proofs.Common.{refl, arith}
+use Rattle.std.proofs.Common.{arith}
 use Rattle.crc32c.specs.Crc.{steps}
 use Rattle.crc32c.proofs.Chunk.{chunk_more, chunk_all}
 use Rattle.crc32c.proofs.register.over_fours.Goals as goal

@@ -6,7 +6,7 @@ use Rattle.std.proofs.lemmas.Iterator.Search.{all_from_yields_List}
 use Rattle.crc32c.proofs.Chunk.{getD_chunked}
 use Rattle.sealed.specs.Number.{number}
 use Rattle.sealed.specs.Zero.{all_zero}
-use Rattle.sealed.proofs.Zeros.{left_none, left_word, number_eight, decided, zeros_number, number_zeros, zeros_decides, all_zero_each}
+use Rattle.sealed.proofs.Zeros.{left_word, number_eight, decided, zeros_number, number_zeros, zeros_decides, all_zero_each}
 use Rattle.sealed.proofs.zero.is_zero.Goals as goal
 
 pub loop-w-preserved : goal.loop-w-preserved

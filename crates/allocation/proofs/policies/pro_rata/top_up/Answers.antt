@@ -1,6 +1,6 @@
 use Rattle.std.proofs.Common.{arith}
 use Rattle.allocation.specs.ProRata.{topped_up}
-use Rattle.allocation.specs.TopUp.{within_drop, topped_more, topped_early, topped_end}
+use Rattle.allocation.specs.TopUp.{topped_more, topped_early, topped_end}
 use Rattle.allocation.proofs.policies.pro_rata.top_up.Goals as goal
 
 pub loop-i-preserved : goal.loop-i-preserved

@@ -1,7 +1,6 @@
-use Rattle.std.proofs.Common.{vec_items, sym, ap, ◌∙◌, arith}
+use Rattle.std.proofs.Common.{vec_items, ap, ◌∙◌, arith}
 use Rattle.allocation.specs.Range.{all_tradable}
-use Rattle.market.specs.Market.{lots_of, total, in_queue}
-use Rattle.market.specs.Put.{out_of_queue}
+use Rattle.market.specs.Market.{lots_of, total}
 use Rattle.level.proofs.Queues.{total_out, tradable_out, taken_is, left_is}
 use Rattle.level.proofs.level.Level.take_out.Goals as goal
 
@@ -24,4 +23,3 @@ invariant_of-self c =
       few = omega (arith, c.remove-taken.ensures.len, level.few);
       reserved = omega (arith, c.remove-taken.ensures.capacity, level.reserved);
     }
-
