@@ -1,5 +1,5 @@
 // Fields written into a buffer, one after the other.
-ghost use Rattle.std.specs.Prelude.{◌≡◌, ◌+◌, ◌*◌, ◌≤◌, [], ◌∷◌, length, take, decimal};
+ghost use Rattle.std.specs.Prelude.{◌≡◌, ◌+◌, ◌≤◌, [], ◌∷◌, length, take, decimal};
 ghost use Rattle.fields.specs.Field.{written};
 ghost use Rattle.fix.specs.Writing.{over, Fits, Wrote, numbers};
 
