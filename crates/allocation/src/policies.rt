@@ -21,7 +21,8 @@ pub trait Policy {
     /// The fills that a quantity and the orders' lots come to.
     ghost split: { Self → ℕ → List ℕ → List ℕ };
 
-    /// Writes the split of what is in range into as many fills as there are orders.
+    /// Writes the split of what is in range into as many fills as there are orders. Lots and fills are two slices, so that loops over them run in vectors,
+    /// and come with the quantity: a struct would be made of a number and two borrows at each call.
     fn fill(&self, quantity: u32, lots: &[u32], fills: &mut [u32])
         requires range { InRange quantity lots.now }
         requires level { length lots.now ≡ length fills.old }

@@ -8,7 +8,7 @@ pub mod messages;
 // the steps
 mod steps;
 
-/// The bytes, the place of the next message, and how many messages were taken.
+/// The bytes, the place of the next message, which refusals name, and how many messages were taken.
 #[derive(Clone, Copy)]
 pub struct Feed<'a> {
     bytes: &'a [u8],

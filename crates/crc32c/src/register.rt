@@ -16,7 +16,7 @@ pub fn over(start: u32, bytes: &[u8]) -> u32
     over_fours(c, rest)
 }
 
-/// The same, four bytes at a time.
+/// The same, four bytes at a time. Each width has another step, so that a const parameter would only choose among them.
 fn over_fours(start: u32, bytes: &[u8]) -> u32
     ensures value { result ≡ register start bytes.now }
 {

@@ -1,4 +1,5 @@
 // Functions for callers in C and Rust, which benchmarks and comparisons link. A slice passes as a pointer and then a length.
+// They answer numbers, 0 for none or for no refusal: C has no `Option` and no `Result`, and no generic function, so that each has a name for each kind.
 #![tactic(auto)]
 
 // the splits of the policies

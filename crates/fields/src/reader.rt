@@ -4,7 +4,7 @@ ghost use Rattle.std.specs.Prelude.{◌≤◌, length};
 /// the steps, and the laws of fields
 pub mod steps;
 
-/// Walks over bytes that it was lent, field by field, and copies none.
+/// Walks over bytes that it was lent, field by field, and copies none. It keeps them all with its place, which refusals name.
 #[derive(Clone, Copy)]
 pub struct Reader<'a> {
     bytes: &'a [u8],

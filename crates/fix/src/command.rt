@@ -33,7 +33,8 @@ pub struct NewOrder {
     ghost price_within: { Within largest_price price },
 }
 
-/// Removes what rests of the member's order of this number.
+/// Removes what rests of the member's order of this number. It repeats three fields of an order: a part that both share would stand in every
+/// `order.member`, and save two or three lines where they are read and written.
 #[derive(Clone, Copy)]
 pub struct Cancel {
     pub member: u32,

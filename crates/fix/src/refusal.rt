@@ -21,6 +21,7 @@ impl MessageRefusal {
     pub fn number(self) -> u32
         ensures value { result ≡ number_of self }
     {
+        // by cases, since one holds a place
         match self {
             MessageRefusal::WrongField { .. } => 11,
             MessageRefusal::WrongCount => 12,

@@ -3,7 +3,7 @@ ghost use Rattle.std.specs.Prelude.{◌≡◌, ◌+◌, ◌≤◌, [], ◌∷◌
 ghost use Rattle.fields.specs.Field.{written};
 ghost use Rattle.fix.specs.Writing.{over, Fits, Wrote, numbers};
 
-/// Stands in a buffer that it was lent, behind what it wrote there.
+/// Stands in a buffer that it was lent, behind what it wrote there, which is summed at the end.
 #[derive(Drop)]
 pub(crate) struct Writer<'a> {
     out: &'a mut [u8],

@@ -8,7 +8,7 @@ use allocation::{AllocationRefusal, MOST_ORDERS, Policy};
 use market::Resting;
 use std::alloc::{AllocError, Global};
 
-/// Room to split a quantity over a queue. What stands in it between two trades means nothing.
+/// Room to split a quantity over a queue: lots and fills apart, as a policy takes them. What stands in it between two trades means nothing.
 #[derive(Drop)]
 pub struct Scratch {
     lots: Vec<u32>,

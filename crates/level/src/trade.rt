@@ -16,7 +16,7 @@ use allocation::Policy;
 use fix::NewOrder;
 use market::{Entry, Event, Resting, other};
 
-/// How far an incoming order has come: the lots left of it, and how many entries are written.
+/// How far an incoming order has come: the lots left of it, and how many entries are written in the list, which its caller lends so that nothing allocates.
 #[derive(Clone, Copy)]
 pub struct Progress {
     pub left: u32,

@@ -15,7 +15,7 @@ pub fn other(side: Side) -> Side
     }
 }
 
-/// Whether two sides are one.
+/// Whether two sides are one, as `==` has it.
 pub fn is_same(a: Side, b: Side) -> bool
     ensures value { result ≡ same_side a b }
 {

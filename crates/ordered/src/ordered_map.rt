@@ -16,11 +16,11 @@ use crate::row::search::search;
 use std::alloc::{AllocError, Global};
 use std::marker::Model;
 
-// A map in memory that is reserved once. None can exist whose keys do not ascend.
+// A map in memory that is reserved once: std's `BTreeMap` allocates as it grows. None can exist whose keys do not ascend.
 #[derive(Drop)]
 pub struct OrderedMap<K: Key, V> {
     nodes: Vec<Node<K, V>>,
-    // how many nodes the map takes
+    // how many nodes the map takes; there may be memory for more than was asked for
     capacity: usize,
 }
 

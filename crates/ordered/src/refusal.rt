@@ -17,6 +17,7 @@ impl<K, V> InsertRefusal<K, V> {
     pub fn number(&self) -> u32
         ensures value { result ≡ number_of self.now }
     {
+        // by cases, since they hold nodes: discriminants are for cases that hold nothing
         match self {
             InsertRefusal::KeyIsThere(_) => 94,
             InsertRefusal::NoRoom(_) => 95,

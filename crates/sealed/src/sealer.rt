@@ -20,6 +20,7 @@ impl SealRefusal {
     pub fn number(self) -> u32
         ensures value { result ≡ number_of self }
     {
+        // by cases, since they hold figures
         match self {
             SealRefusal::PayloadLength { .. } => 92,
         }
