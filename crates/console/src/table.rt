@@ -34,6 +34,7 @@ impl fmt::Display for Row {
     }
 }
 
+/// Not a `Display` of the type, which `fix` has: the words are those of the programs.
 fn side_name(side: Side) -> &'static str {
     match side {
         Side::Buy => "buy",
