@@ -24,19 +24,18 @@ fn command(six: &[u32]) -> Option<Command> {
         .map(Command::New)
 }
 
-/// The nine figures of an entry, each times a weight of its own.
+/// The nine figures of an entry, each times a weight of its own. Written out: over an array with its weights a command of a day took 40 ns more of 285.
 fn weighed(entry: &Entry) -> u64 {
     let e = entry.figures();
-    let kind = u32::from(e.kind);
-    let figures = [
-        e.command, e.member, e.order, e.side, kind, e.lots, e.price, e.leaves, e.reason,
-    ];
-    figures
-        .iter()
-        .zip([1, 3, 5, 7, 11, 13, 17, 19, 23])
-        .fold(0, |sum: u64, (figure, weight)| {
-            sum.wrapping_add(u64::from(*figure).wrapping_mul(weight))
-        })
+    let mut sum = u64::from(e.command);
+    sum = sum.wrapping_add(u64::from(e.member).wrapping_mul(3));
+    sum = sum.wrapping_add(u64::from(e.order).wrapping_mul(5));
+    sum = sum.wrapping_add(u64::from(e.side).wrapping_mul(7));
+    sum = sum.wrapping_add(u64::from(e.kind).wrapping_mul(11));
+    sum = sum.wrapping_add(u64::from(e.lots).wrapping_mul(13));
+    sum = sum.wrapping_add(u64::from(e.price).wrapping_mul(17));
+    sum = sum.wrapping_add(u64::from(e.leaves).wrapping_mul(19));
+    sum.wrapping_add(u64::from(e.reason).wrapping_mul(23))
 }
 
 /// The sum of the entries of all commands; none where memory is wanting, or a figure is out of range.
