@@ -12,7 +12,7 @@ module _ {K : Type 0} (V : Type 0) (order : K → K → Ordering) where
   unfolding ascending
   ascending_none = refl
 
-  above_none : (key : K) → all_above {V = V} order key [] ≡ true
+  pub above_none : (key : K) → all_above {V = V} order key [] ≡ true
   unfolding all_above
   above_none key = refl
 

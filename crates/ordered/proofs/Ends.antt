@@ -1,14 +1,15 @@
 -- The first node and the last. Assumes nothing.
-use Rattle.std.proofs.Common.{◌≡◌, ◌-◌, true, false, List, [], ◌∷◌, length, get_or, is_some, Some, None, Option, Ordering, Less, sym, refl, ap, ◌∙◌, subst, ⊎_elim, arith, Bor}
+use Rattle.std.proofs.Common.{◌≡◌, ◌↔◌, ℕ, zero, suc, ◌<◌, take, drop, length-take, length-drop, IsSome, ◌-◌, true, false, List, [], ◌∷◌, length, get_or, is_some, Some, None, Option, Ordering, Less, sym, refl, ap, ◌∙◌, subst, ⊎_elim, arith, Bor}
 use Rattle.std.specs.Option.{option_map}
 use Rattle.std.specs.Slice.{IsGetResult}
 use Rattle.std.specs.Ordering.{is_eq}
 use Rattle.std.proofs.lemmas.Bool.{cases_Bool, true≢false, false≢true}
 use Rattle.ordered.specs.declared.node.Node.{Node}
+use Rattle.ordered.specs.Kept.{Kept, Sound, with_nodes}
 use Rattle.ordered.specs.Order.{Total}
 use Rattle.ordered.specs.Row.{node_with, all_above, ascending, first, last}
 use Rattle.ordered.proofs.Orders.{less_from, equal_from, eq_itself, not_both}
-use Rattle.ordered.proofs.Ascends.{above_parts, ascending_parts}
+use Rattle.ordered.proofs.Ascends.{above_none, above_parts, above_from, ascending_none, ascending_parts, ascending_from}
 use Rattle.ordered.proofs.Lookups.{node_none, node_here, node_later}
 
 module _ {K V : Type 0} where
@@ -134,3 +135,49 @@ module _ {K V : Type 0} where
   last_item (n ∷ ns) (Some x) item =
       let e : length (n ∷ ns) - 1 ≡ length ns = omega arith in
       sym (last_place n ns x.now ∙ ap Some (sym (item.1 ∙ ap (λ i. get_or (n ∷ ns) i x.now) e)))
+
+-- ---- what is left without an end
+
+module _ {K V : Type 0} where
+  pub none_first : (ns : List (Node K V)) → length ns ≡ 0 → first ns ≡ None
+  unfolding first
+  none_first [] e = refl
+  none_first (n ∷ ns) e = absurd (omega arith)
+
+  pub first_at : (ns : List (Node K V)) (n : Node K V) → 0 < length ns → n ≡ get_or ns 0 n → Some n ≡ first ns
+  unfolding first
+  first_at [] n h e = absurd (omega arith)
+  first_at (m ∷ ns) n h e = ap Some e
+
+  pub last_popped : (ns : List (Node K V)) (long : ℕ) (r : Option (Node K V)) → long ≡ length ns → IsSome r ↔ (0 < long) → ((d : Node K V) → 0 < long → r ≡ Some (get_or ns (long - 1) d)) → r ≡ last ns
+  unfolding last
+  last_popped [] long None e some at = refl
+  last_popped [] long (Some n) e some at = absurd (omega (arith, e, some.0 refl))
+  last_popped (n ∷ ns) long r e some at =
+      let place : long - 1 ≡ length ns = omega arith in
+      at n (omega arith) ∙ ap (λ i. Some (get_or (n ∷ ns) i n)) place ∙ sym (last_place n ns n)
+
+module _ {K V : Type 0} (order : K → K → Ordering) where
+  pub ascending_drop : (ns : List (Node K V)) → ascending order ns ≡ true → ascending order (drop 1 ns) ≡ true
+  ascending_drop [] up = up
+  ascending_drop (n ∷ ns) up = (ascending_parts order n ns up).1
+
+  above_take : (low : K) (ns : List (Node K V)) (i : ℕ) → all_above order low ns ≡ true → all_above order low (take i ns) ≡ true
+  above_take low ns zero t = above_none V order low
+  above_take low [] (suc i) t = t
+  above_take low (n ∷ ns) (suc i) t =
+      let p = above_parts order low n ns t in
+      above_from order low n (take i ns) p.0 (above_take low ns i p.1)
+
+  pub ascending_take : (ns : List (Node K V)) (i : ℕ) → ascending order ns ≡ true → ascending order (take i ns) ≡ true
+  ascending_take ns zero up = ascending_none V order
+  ascending_take [] (suc i) up = up
+  ascending_take (n ∷ ns) (suc i) up =
+      let p = ascending_parts order n ns up in
+      ascending_from order n (take i ns) (above_take n.key ns i p.0) (ascending_take ns i p.1)
+
+  pub sound_drop : (map : Kept K V) → Sound order map → Sound order (with_nodes map (drop 1 map.nodes))
+  sound_drop map s = record { ascends = ascending_drop map.nodes s.ascends; inside = omega (arith, s.inside, length-drop 1 map.nodes) }
+
+  pub sound_take : (map : Kept K V) (i : ℕ) → Sound order map → Sound order (with_nodes map (take i map.nodes))
+  sound_take map i s = record { ascends = ascending_take map.nodes i s.ascends; inside = omega (arith, s.inside, length-take i map.nodes) }

@@ -133,11 +133,6 @@ module _ {K V : Type 0} (order : K → K → Ordering) where
       sym (cond-true (is_eq (order n.key node.key)) _ _ (ap (λ (m : Node K V). is_eq (order n.key m.key)) (sym same) ∙ eq_itself order total n.key))
 
 module _ {K V : Type 0} where
-  pub none_first : (ns : List (Node K V)) → length ns ≡ 0 → None ≡ option_map (λ (n : Node K V). n.value) (first ns)
-  unfolding first
-  none_first [] e = refl
-  none_first (n ∷ ns) e = absurd (omega arith)
-
   pub first_get : (ns : List (Node K V)) → first ns ≡ slice_get ns 0
   unfolding first
   first_get [] = refl

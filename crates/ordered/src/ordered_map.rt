@@ -1,4 +1,4 @@
-ghost use Rattle.std.specs.Prelude.{◌≡◌, ◌<◌, [], length, Some, IfOk, IfErr, MatchResult};
+ghost use Rattle.std.specs.Prelude.{◌≡◌, ◌-◌, ◌<◌, [], length, take, drop, Some, IfOk, IfErr, MatchResult};
 ghost use Rattle.answers.specs.Answer.{if_answered};
 ghost use Rattle.std.specs.Borrow.{sem};
 ghost use Rattle.std.specs.List.{slice_get};
@@ -147,6 +147,30 @@ impl<K: Key, V> OrderedMap<K, V> {
         ensures sound { Sound K.cmp self.now }
     {
         &self.nodes
+    }
+
+    // Takes out the node with the least key.
+    pub fn pop_first(&mut self) -> Option<Node<K, V>>
+        ensures value { result ≡ first_of self.old.nodes }
+        ensures nodes { self.new.nodes ≡ drop 1 self.old.nodes }
+        ensures capacity { self.new.capacity ≡ self.old.capacity }
+        ensures sound { Sound K.cmp self.new }
+    {
+        if self.nodes.is_empty() {
+            None
+        } else {
+            Some(self.nodes.remove(0))
+        }
+    }
+
+    // Takes out the node with the greatest key.
+    pub fn pop_last(&mut self) -> Option<Node<K, V>>
+        ensures value { result ≡ last_of self.old.nodes }
+        ensures nodes { self.new.nodes ≡ take (length self.old.nodes - 1) self.old.nodes }
+        ensures capacity { self.new.capacity ≡ self.old.capacity }
+        ensures sound { Sound K.cmp self.new }
+    {
+        self.nodes.pop()
     }
 
     // The node with the least key.
