@@ -5,10 +5,8 @@
 mod book_side;
 // what it does
 mod methods;
-// a level that opens or closes, over lent rows
-mod rows;
-// levels that an incoming order meets
-mod meet;
+// its levels, with those that are spare
+mod levels;
 // prices in the order in which they are met
 mod rank;
 // why a side is left as it was
