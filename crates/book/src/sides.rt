@@ -51,7 +51,12 @@ pub(crate) fn meet<P: Policy>(
 }
 
 /// An order comes to rest.
-pub(crate) fn rest(mine: &mut BookSide, places: &mut OrderedMap<OrderId, Place>, place: Place, order: Resting)
+pub(crate) fn rest(
+    mine: &mut BookSide,
+    places: &mut OrderedMap<OrderId, Place>,
+    place: Place,
+    order: Resting,
+)
     requires side { side_of mine.old ≡ place.side }
     requires placed { Placed place.side (levels_of mine.old) places.old.nodes }
     requires new { place_of places.old.nodes (record { order = order.order; member = order.member }) ≡ None }

@@ -126,14 +126,8 @@ module _ {K V : Type 0} (order : K → K → Ordering) where
       (λ _. ap suc (length_value ns key w))
 
   pub first_value : Total order → (ns : List (Node K V)) (node : Node K V) (w : V) → first ns ≡ Some node → value_set ns 0 w ≡ with_value order ns node.key w
-  unfolding first value_set with_value
+  unfolding value_set with_value
   first_value total [] node w e = absurd (false≢true (ap is_some e))
   first_value total (n ∷ ns) node w e =
       let same : n ≡ node = cc in
       sym (cond-true (is_eq (order n.key node.key)) _ _ (ap (λ (m : Node K V). is_eq (order n.key m.key)) (sym same) ∙ eq_itself order total n.key))
-
-module _ {K V : Type 0} where
-  pub first_get : (ns : List (Node K V)) → first ns ≡ slice_get ns 0
-  unfolding first
-  first_get [] = refl
-  first_get (n ∷ ns) = refl

@@ -1,6 +1,6 @@
 -- Total orders, and those of the two kinds of keys.
 use Rattle.std.specs.Prelude.{◌≡◌}
-use Rattle.std.specs.declared.cmp.Ordering.TheVariants.{Less, Equal, Greater}
+use Rattle.std.specs.declared.cmp.Ordering.TheVariants.{Less, Equal}
 use Rattle.std.specs.declared.cmp.Ordering.{Ordering}
 use Rattle.std.specs.Ordering.{ordering_reverse, nat_cmp, on, then_cmp}
 use Rattle.ordered.specs.declared.key.price.Price.{Price}

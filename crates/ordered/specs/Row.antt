@@ -1,6 +1,7 @@
 -- A map as a row of nodes in the order of their keys, no key twice.
-use Rattle.std.specs.Prelude.{ℕ, zero, suc, Bool, true, cond, ◌&&◌, List, [], ◌∷◌, is_some, Some, None, Ok, Err, Option, Result}
+use Rattle.std.specs.Prelude.{ℕ, zero, suc, Bool, true, cond, ◌&&◌, List, [], ◌∷◌, ◌-◌, length, is_some, Some, None, Ok, Err, Option, Result}
 use Rattle.std.specs.declared.cmp.Ordering.{Ordering}
+use Rattle.std.specs.List.{slice_get}
 use Rattle.std.specs.Option.{option_map}
 use Rattle.std.specs.Ordering.{is_lt, is_eq}
 use Rattle.ordered.specs.declared.node.Node.{Node}
@@ -49,14 +50,11 @@ module _ {K V : Type 0} (order : K → K → Ordering) where
   ascending (n ∷ ns) = all_above n.key ns && ascending ns
 
 -- the first node and the last, or none
-unfoldable pub first : {K V : Type 0} → List (Node K V) → Option (Node K V)
-first [] = None
-first (n ∷ ns) = Some n
+abbrev pub first : {K V : Type 0} → List (Node K V) → Option (Node K V)
+first nodes = slice_get nodes 0
 
-unfoldable pub last : {K V : Type 0} → List (Node K V) → Option (Node K V)
-last [] = None
-last (n ∷ []) = Some n
-last (n ∷ m ∷ ms) = last (m ∷ ms)
+abbrev pub last : {K V : Type 0} → List (Node K V) → Option (Node K V)
+last nodes = slice_get nodes (length nodes - 1)
 
 -- the value of the node at a place written over
 unfoldable pub value_set : {K V : Type 0} → List (Node K V) → ℕ → V → List (Node K V)

@@ -150,6 +150,7 @@ impl<K: Key, V> OrderedMap<K, V> {
     }
 
     // Takes out the node with the least key.
+    #[tactic(auto, using(crate::proofs::Ends::ascending_drop))]
     pub fn pop_first(&mut self) -> Option<Node<K, V>>
         ensures value { result ≡ first_of self.old.nodes }
         ensures nodes { self.new.nodes ≡ drop 1 self.old.nodes }
@@ -164,6 +165,7 @@ impl<K: Key, V> OrderedMap<K, V> {
     }
 
     // Takes out the node with the greatest key.
+    #[tactic(auto, using(crate::proofs::Ends::ascending_take))]
     pub fn pop_last(&mut self) -> Option<Node<K, V>>
         ensures value { result ≡ last_of self.old.nodes }
         ensures nodes { self.new.nodes ≡ take (length self.old.nodes - 1) self.old.nodes }
@@ -174,7 +176,6 @@ impl<K: Key, V> OrderedMap<K, V> {
     }
 
     // The node with the least key.
-    #[tactic(auto, using(crate::proofs::Ends::first_item))]
     pub fn first(&self) -> Option<&Node<K, V>>
         ensures value { option_map (λ x. x.now) result ≡ first_of self.now.nodes }
         ensures sound { Sound K.cmp self.now }
@@ -183,7 +184,6 @@ impl<K: Key, V> OrderedMap<K, V> {
     }
 
     // The node with the greatest key.
-    #[tactic(auto, using(crate::proofs::Ends::last_item))]
     pub fn last(&self) -> Option<&Node<K, V>>
         ensures value { option_map (λ x. x.now) result ≡ last_of self.now.nodes }
         ensures sound { Sound K.cmp self.now }

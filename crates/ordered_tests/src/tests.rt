@@ -68,13 +68,7 @@ fn key_of(seed: u32) -> u8 {
     ((seed >> 24) & 0xff) as u8
 }
 
-fn agree<K: Key>(
-    rt: &impl Abort,
-    map: &OrderedMap<K, u32>,
-    table: &Table,
-    number: u8,
-    key: &K,
-) {
+fn agree<K: Key>(rt: &impl Abort, map: &OrderedMap<K, u32>, table: &Table, number: u8, key: &K) {
     assert_eq!(rt; map.len(), table.len());
     assert_eq!(rt; map.capacity(), CAPACITY);
     assert_eq!(rt; map.get(key).copied(), table.values[number as usize]);

@@ -1,5 +1,5 @@
-// Insertion and removal over nodes that the caller lends. That the keys ascend is asked of the caller, since no type can speak of a key's
-// order for every kind of key; the types that hold such nodes keep it.
+// Insertion and removal over nodes that the caller lends. That the keys ascend is asked of the caller, as lent nodes are no map; the types that
+// hold such nodes keep it.
 ghost use Rattle.std.specs.Prelude.{◌≡◌, ◌≤◌, true, IfErr, vec_len, vec_capacity};
 ghost use Rattle.answers.specs.Answer.{if_answered};
 ghost use Rattle.std.specs.List.{insert};

@@ -1,4 +1,4 @@
-use Rattle.std.proofs.Common.{Some, vec_items, sym, ap, ◌∙◌, subst}
+use Rattle.std.proofs.Common.{Some, vec_items, sym, ap, ◌∙◌}
 use Rattle.std.specs.Option.{option_map}
 use Rattle.ordered.specs.Place.{At}
 use Rattle.ordered.proofs.Found.{node_at}
