@@ -5,9 +5,9 @@ ghost use Rattle.allocation.specs.Refusal.{number_of};
 #[derive(Clone, Copy, PartialEq, Eq, Debug)]
 pub enum AllocationRefusal {
     /// there are more lots than fills, or fewer
-    LengthsDiffer,
+    LengthsDiffer = 51,
     /// there are too many orders, or the quantity or the lots of one are 0 or too large
-    OutOfRange,
+    OutOfRange = 52,
 }
 
 impl AllocationRefusal {
@@ -15,9 +15,6 @@ impl AllocationRefusal {
     pub fn number(self) -> u32
         ensures value { result ≡ number_of self }
     {
-        match self {
-            AllocationRefusal::LengthsDiffer => 51,
-            AllocationRefusal::OutOfRange => 52,
-        }
+        self as u32
     }
 }

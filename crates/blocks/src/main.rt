@@ -6,7 +6,7 @@ use sealed::{BLOCK, check, is_zero};
 use std::io::Read;
 
 // What was seen so far. Zero blocks in a row are shown as one row, once the run is over.
-#[derive(Clone, Copy)]
+#[derive(Drop)]
 struct Seen {
     sealed: usize,
     zero: usize,
@@ -29,12 +29,11 @@ fn list(rt: &HostRuntime) -> anyhow::Result<()> {
         neither: 0,
         zero_from: None,
     };
-    let mut count = 0usize;
-    for block in bytes.chunks_exact(BLOCK) {
-        seen = show(rt, seen, count, block)?;
-        count = count.saturating_add(1);
+    for (at, block) in bytes.chunks_exact(BLOCK).enumerate() {
+        show(rt, &mut seen, at, block)?;
     }
-    end_zeros(rt, seen, count)?;
+    let count = bytes.len() / BLOCK;
+    end_zeros(rt, &mut seen, count)?;
     let sealed = seen.sealed;
     let zero = seen.zero;
     let neither = seen.neither;
@@ -45,25 +44,17 @@ fn list(rt: &HostRuntime) -> anyhow::Result<()> {
     Ok(())
 }
 
-fn show(rt: &HostRuntime, seen: Seen, at: usize, block: &[u8]) -> anyhow::Result<Seen> {
+fn show(rt: &HostRuntime, seen: &mut Seen, at: usize, block: &[u8]) -> anyhow::Result<()> {
     if is_zero(block) {
-        let from = seen.zero_from.unwrap_or(at);
-        return Ok(Seen {
-            sealed: seen.sealed,
-            zero: seen.zero.saturating_add(1),
-            neither: seen.neither,
-            zero_from: Some(from),
-        });
+        seen.zero = seen.zero.saturating_add(1);
+        seen.zero_from = seen.zero_from.or(Some(at));
+        return Ok(());
     }
     end_zeros(rt, seen, at)?;
     let Some(payload) = check(block) else {
         println!(rt; "{at}\tneither\t-\t-\t-")?;
-        return Ok(Seen {
-            sealed: seen.sealed,
-            zero: seen.zero,
-            neither: seen.neither.saturating_add(1),
-            zero_from: None,
-        });
+        seen.neither = seen.neither.saturating_add(1);
+        return Ok(());
     };
     let size = payload.bytes.len();
     let (messages, refused) = count_messages(payload.bytes);
@@ -71,17 +62,13 @@ fn show(rt: &HostRuntime, seen: Seen, at: usize, block: &[u8]) -> anyhow::Result
         None => println!(rt; "{at}\tsealed\t{size}\t{messages}\t-")?,
         Some(number) => println!(rt; "{at}\tsealed\t{size}\t{messages}\t{number}")?,
     }
-    Ok(Seen {
-        sealed: seen.sealed.saturating_add(1),
-        zero: seen.zero,
-        neither: seen.neither,
-        zero_from: None,
-    })
+    seen.sealed = seen.sealed.saturating_add(1);
+    Ok(())
 }
 
-// Shows a run of zero blocks that ends before block `end`.
-fn end_zeros(rt: &HostRuntime, seen: Seen, end: usize) -> anyhow::Result<()> {
-    let Some(from) = seen.zero_from else {
+// Shows the run of zero blocks that ends before block `end`, if there is one.
+fn end_zeros(rt: &HostRuntime, seen: &mut Seen, end: usize) -> anyhow::Result<()> {
+    let Some(from) = seen.zero_from.take() else {
         return Ok(());
     };
     let last = end.saturating_sub(1);
@@ -96,13 +83,6 @@ fn end_zeros(rt: &HostRuntime, seen: Seen, end: usize) -> anyhow::Result<()> {
 // How many messages stand in a payload from its start on, and the number of the refusal where they stop before its end.
 fn count_messages(payload: &[u8]) -> (usize, Option<u32>) {
     let mut feed = Feed::new(payload);
-    for _ in 0..=payload.len() {
-        let Some(next) = feed.next() else {
-            break;
-        };
-        if let Err(stopped) = next {
-            return (feed.taken(), Some(stopped.why.number()));
-        }
-    }
-    (feed.taken(), None)
+    let stopped = feed.messages().find_map(|message| message.err());
+    (feed.taken(), stopped.map(|stopped| stopped.why.number()))
 }

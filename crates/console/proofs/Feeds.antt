@@ -1,14 +1,14 @@
 -- A feed's next message, by what its first bytes say.
-use Rattle.std.proofs.Common.{◌≡◌, ℕ, ◌+◌, true, false, cond, eqb, List, [], length, Some, None, Option, sym, refl, ap, ◌∙◌, add-zero}
-use Rattle.answers.specs.Answer.{Answer}
+use Rattle.std.proofs.Common.{◌≡◌, ℕ, ◌+◌, ◌<◌, true, false, cond, eqb, List, [], length, Some, None, Option, sym, refl, ap, ◌∙◌, ⊎_elim, add-zero, arith}
+use Rattle.answers.specs.Answer.{Answer, answered, refused}
 use Rattle.fix.specs.Command.{Command}
 use Rattle.fix.specs.Message.{parse_first}
 use Rattle.fix.specs.Refusal
 use Rattle.fix.specs.Refusal.{place_of}
 use Rattle.fix.specs.declared.refusal.MessageRefusal.{MessageRefusal}
 use Rattle.fix.specs.declared.refusal.MessageRefusal.TheVariants.{WrongField, WrongCount, WrongSum}
-use Rattle.fix.proofs.Whole.{first_of_nothing}
-use Rattle.std.proofs.lemmas.Bool.{eqb-true, cond-true, cond-false}
+use Rattle.fix.proofs.Whole.{first_of_nothing, first_takes}
+use Rattle.std.proofs.lemmas.Bool.{cases_Bool, eqb-true, eqb-false, cond-true, cond-false}
 use Rattle.std.proofs.lemmas.List.{nil_from_length}
 use Rattle.console.specs.Feed.{refusal, located, bytes_taken, messages_taken}
 
@@ -39,6 +39,18 @@ module _ (at count : ℕ) (l m : List ℕ) (same : m ≡ l) where
 
     pub some_taken : count + messages_taken a ≡ count + messages_taken (parse_first l)
     some_taken = ap (λ x. count + messages_taken x) (says ∙ ap parse_first same)
+
+-- a command that was taken took a byte
+takes : (l : List ℕ) (at count : ℕ) (c : Command) (a : Answer (Command × ℕ)) → parse_first l ≡ a → answered c ≡ located at count a → 0 < bytes_taken a
+takes l at count c (answered r) is e = let t = first_takes l r.0 r.1 is in omega (arith, t.0)
+takes l at count c (refused number figures) is e = let z : ◌≡◌ {A = ℕ} 0 1 = cc in absurd (omega arith)
+
+pub command_takes : (at count : ℕ) (l : List ℕ) (c : Command) → Some (answered c) ≡ Next at count l → (0 < length l) × (0 < bytes_taken (parse_first l))
+command_takes at count l c e =
+    ⊎_elim
+    (λ none. let z : Some (answered c) ≡ None = e ∙ cond-true _ _ _ none in let o : ◌≡◌ {A = ℕ} 0 1 = cc in absurd (omega arith))
+    (λ some. let z : Some (answered c) ≡ Some (located at count (parse_first l)) = e ∙ cond-false _ _ _ some in (omega (arith, eqb-false _ _ some), takes l at count c (parse_first l) refl cc))
+    (cases_Bool (eqb (length l) 0))
 
 -- a refusal, located
 pub located_refusal : (at count : ℕ) (e : MessageRefusal) → refusal e (count + 1) (at + place_of e) ≡ located at count (Refusal.refusal e)

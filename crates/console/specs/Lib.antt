@@ -1,2 +1,3 @@
 pub mod Feed
+pub mod Messages
 pub mod Shown

@@ -3,6 +3,8 @@ ghost use Rattle.std.specs.Prelude.{◌≤◌, length};
 
 use fix::MessageRefusal;
 
+// its messages, one after the other
+pub mod messages;
 // the steps
 mod steps;
 

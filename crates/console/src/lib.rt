@@ -8,6 +8,7 @@ mod shown;
 // rows and words
 mod table;
 
+pub use feed::messages::Messages;
 pub use feed::{Feed, Stopped};
 pub use shown::unshow;
 pub use table::{HEADER, Refused, Row};

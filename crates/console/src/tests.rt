@@ -27,6 +27,16 @@ fn stops_at_the_wrong_field(rt: HostRuntime) -> Result<(), Fail> {
 }
 
 #[test]
+fn goes_over_the_messages(rt: HostRuntime) {
+    let mut run =
+        *b"8=FIX.4.4|9=20|35=F|49=1|34=1|41=1|10=108|8=FIX.4.4|9=20|35=F|49=1|34=1|41=1|10=107|";
+    unshow(&mut run);
+    let mut feed = Feed::new(&run);
+    assert_eq!(rt; feed.messages().count(), 2);
+    assert!(rt; feed.taken() == 1 && feed.place() == 42);
+}
+
+#[test]
 fn nothing_is_the_end(rt: HostRuntime) {
     let mut feed = Feed::new(b"");
     assert!(rt; feed.next().is_none());

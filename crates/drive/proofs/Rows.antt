@@ -3,11 +3,6 @@ use Rattle.std.proofs.Common.{List, [], ◌∷◌, ◌++◌, refl, subst}
 use Rattle.drive.specs.Act.{Act, Acted, Does}
 use Rattle.drive.specs.Medium.{Medium}
 
--- no act
-pub does_none : {D : Type 0} (means : D → Medium) (d : D) → Does means [] d d
-unfolding Does
-does_none means d = refl
-
 -- one more act
 pub does_more : {D : Type 0} (means : D → Medium) (acts : List Act) (act : Act) (d m e : D) → Does means acts d m → Acted act (means m) (means e) → Does means (acts ++ (act ∷ [])) d e
 unfolding Does

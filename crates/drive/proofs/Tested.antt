@@ -17,20 +17,6 @@ tests count at size = record {
 apart : {a : Unit {0}} {number : ℕ} {figures : List ℕ} → answered a ≡ refused number figures → ⊥
 apart e = let z : ◌≡◌ {A = ℕ} 0 1 = cc in omega arith
 
-both : (b c : Bool) (a : Unit {0}) → answered a ≡ cond b (cond c (answered tt) (refused 42 [])) (refused 41 []) → (b ≡ true) × (c ≡ true)
-both true true a e = (refl, refl)
-both true false a e = absurd (apart e)
-both false c a e = absurd (apart e)
-
--- a call that passed its test
-pub passed : (count at size : ℕ) (a : Unit {0}) → answered a ≡ tested count at size → (at < count) × (size ≡ block_size)
-unfolding tested
-passed count at size a e = let p = both (ltb at count) (eqb size block_size) a e in (ltb-true at count p.0, eqb-true size block_size p.1)
-
--- what a buffer holds after a call that passed
-pub if_passed : {X : Type 0} (count at size : ℕ) (new old : X) → at < count → size ≡ block_size → if_answered (tested count at size) new old ≡ new
-if_passed count at size new old h e = ap (λ a. if_answered a new old) ((tests count at size).fits h e)
-
 -- a call that passed its test did what it promises where it answers `Ok`
 pub passed_case : (P Q : Type 0) (r : Result (Unit {0}) DriveRefusal) (count at size : ℕ) → at < count → size ≡ block_size → answer r ≡ tested count at size → MatchResult r (λ _. P) (λ _. Q) → P
 passed_case P Q (Ok u) count at size h e a p = p

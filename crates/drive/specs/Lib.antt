@@ -3,7 +3,6 @@ pub mod Medium
 pub mod Act
 pub mod Refusal
 pub mod Plain
-pub mod Place
 pub mod HeldBack
 pub mod Size
 pub mod Zero

@@ -1,14 +1,23 @@
 -- Blocks of a memory, read and written.
-use Rattle.std.specs.Prelude.{◌≡◌, ℕ, zero, suc, ◌+◌, ◌-◌, ◌*◌, ◌<◌, ◌≤◌, List, ◌++◌, length, take, drop, Vec, ◌≢◌, refl}
+use Rattle.std.specs.Prelude.{◌≡◌, ℕ, zero, suc, ◌+◌, ◌-◌, ◌*◌, ◌<◌, ◌≤◌, List, ◌++◌, length, take, drop, Vec, ◌≢◌, slice_index_or, refl}
 use Rattle.std.proofs.Common.{sym, ap, ◌∙◌, inl, inr, arith, take-append-drop, take-add}
+use Rattle.std.specs.Simd.{first_chunks}
 use Rattle.std.specs.Vec.{with_items}
-use Rattle.std.proofs.lemmas.List.{length-take, length-drop, length-append, drop-take, with_items_is}
+use Rattle.std.proofs.lemmas.List.{length-take, length-drop, length-append, drop-drop, drop-take, with_items_is}
 use Rattle.std.proofs.lemmas.Slice.{take-put_mid_below, drop-put_mid, between-put_mid}
 use Rattle.std.proofs.lemmas.Bool.{cases_order}
 use Rattle.drive.specs.Block.{block_size, whole, block, put, spare, joined}
 use Rattle.drive.specs.Medium.{Written}
 use Rattle.drive.specs.Plain.{bare}
 use Rattle.drive.specs.Size.{within}
+
+-- the whole blocks of a memory, one by one
+pub chunk_block : (n b : ℕ) (m d : List ℕ) → b < n → slice_index_or (first_chunks block_size n m) b d ≡ block m b
+chunk_block zero b m d h = absurd (omega arith)
+chunk_block (suc n) zero m d h = refl
+chunk_block (suc n) (suc b) m d h =
+    let next : block_size + b * block_size ≡ suc b * block_size = omega arith in
+    chunk_block n b (drop block_size m) d (omega arith) ∙ ap (take block_size) (drop-drop (b * block_size) block_size m ∙ ap (λ k. drop k m) next)
 
 pub length_put : (m : List ℕ) (at : ℕ) (bytes : List ℕ) → at < whole (length m) → length bytes ≡ block_size → length (put m at bytes) ≡ length m
 length_put m at bytes h e = let w = within (length m) at h in simp (length-append, length-take, length-drop) (omega arith)

@@ -1,116 +1,115 @@
--- What a row of held blocks shows, and what becomes of it as one is renewed, added or put out.
-use Rattle.std.specs.Prelude.{◌≡◌, ℕ, zero, suc, ◌+◌, ◌<◌, ◌⊎◌, List, length, ◌≢◌, slice_index, slice_index_or, slice_set, refl}
-use Rattle.std.proofs.Common.{sym, ap, ◌∙◌, inl, inr, add-one, arith}
-use Rattle.std.proofs.lemmas.List.{get_or-set_same, get_or-set_other}
-use Rattle.std.proofs.lemmas.Bool.{cases_order, cases_eq, eq-eqb, ne_eqb}
-use Rattle.drive.specs.Block.{block_size, whole, block, put}
-use Rattle.drive.specs.Place.{Apart, Below, Absent}
-use Rattle.drive.specs.HeldBack.{view}
-use Rattle.drive.specs.Size.{bare_sized}
-use Rattle.drive.specs.Memory.{block_put, block_put_other}
+-- What is held for a block, as one is renewed, added or put out.
+use Rattle.std.specs.Prelude.{◌≡◌, ℕ, suc, ◌+◌, ◌<◌, Option, Some, None, IsNone, List, [], ◌∷◌, ◌++◌, length, ◌≢◌, ◌==◌, is_some, Bool, slice_get, slice_set, slice_index_or, map, refl}
+use Rattle.std.specs.List.{All, AllPairs, position, position_or_len}
+use Rattle.std.specs.Option.{option_or}
+use Rattle.std.proofs.Common.{sym, ap, ◌∙◌, inl, inr, arith, subst}
+use Rattle.std.proofs.lemmas.Bool.{cases_lt, lt-ltb, eq-eqb, ne_eqb, eqb-true, eqb-false, false≢true}
+use Rattle.std.proofs.Math.ListN.{get_or-map}
+use Rattle.std.proofs.lemmas.List.{length-set}
+use Rattle.std.proofs.Math.Seq.{map-set_same}
+use Rattle.std.proofs.lemmas.List.Quantifiers.{position-Some}
+use Rattle.std.proofs.lemmas.List.Folds.{find_at, find-set, find_past, find-append}
+use Rattle.std.proofs.lemmas.List.Sums.{position_or_len_is, fails_before_first}
+use Rattle.std.proofs.lemmas.Option.{none-some, slice_get_past, slice_get-get_or}
+use Rattle.arrayvec.specs.ArrayVec.{ArrayVec, with_items}
+use Rattle.arrayvec.proofs.ArrayVecLemmas.{items-with_items}
+use Rattle.drive.specs.HeldBack.{held_block}
+use Rattle.drive.specs.declared.drives.held_back.HeldBlock.{HeldBlock}
 
-pub same_place : (ps : List ℕ) (n i j : ℕ) → Apart ps n → i < n → j < n → slice_index ps i ≡ slice_index ps j → i ≡ j
-same_place ps n i j apart hi hj e =
-    elim (cases_order i j) [ inl s ↦ s | inr (inl l) ↦ absurd (apart i j (l, hj) e) | inr (inr l) ↦ absurd (apart j i (l, hi) (sym e)) ]
+or_none : {X : Type 0} (o : Option X) → option_or o None ≡ o
+or_none None = refl
+or_none (Some x) = refl
 
-pub view_none : (ps st : List ℕ) (n b : ℕ) (u : List ℕ) → Absent ps n b → view ps st n b u ≡ u
-view_none ps st zero b u h = refl
-view_none ps st (suc n) b u h = rw (ne_eqb (slice_index ps n) b (h n (omega arith))) (view_none ps st n b u (λ i l. h i (omega arith)))
+pub none_is : {X : Type 0} (o : Option X) → IsNone o → o ≡ None
+none_is None none = refl
+none_is (Some x) none = absurd (false≢true (sym none))
 
-pub view_at : (ps st : List ℕ) (n b i : ℕ) (u : List ℕ) → i < n → slice_index ps i ≡ b → ((j : ℕ) → j < n → slice_index ps j ≡ b → j ≡ i) → view ps st n b u ≡ block st i
-view_at ps st zero b i u h e only = absurd (omega arith)
-view_at ps st (suc n) b i u h e only =
-    elim (cases_eq n i) [
-      | inl same ↦ rw (eq-eqb (slice_index ps n) b (ap (λ k. slice_index ps k) same ∙ e)) (ap (block st) same)
-      | inr other ↦
-          rw (ne_eqb (slice_index ps n) b (λ f. other (only n (omega arith) f)))
-          (view_at ps st n b i u (omega arith) e (λ j l. only j (omega arith)))
+-- no block of the row has the number
+abbrev pub NoneHas : List HeldBlock → ℕ → Type 0
+NoneHas held b = All (λ h. h.number ≢ b) held
+
+pub none_held : (held : List HeldBlock) (b : ℕ) → NoneHas held b → held_block held b ≡ None
+none_held [] b none = refl
+none_held (h ∷ held) b none = rw (ne_eqb h.number b (none 0 h (omega arith))) (none_held held b (λ k d l. none (suc k) d (omega arith)))
+
+pub none_has : (held : List HeldBlock) (b : ℕ) → IsNone (held_block held b) → NoneHas held b
+none_has held b none k d l same =
+    let test : HeldBlock → Bool = λ h. h.number == b in
+    elim (cases_lt (position_or_len test held) (length held)) [
+      | inl under ↦ let there = ap is_some (find_at test held ∙ slice_get-get_or held (position_or_len test held) d under) in let no = sym none ∙ there in absurd (false≢true no)
+      | inr over ↦ eqb-false (slice_index_or held k d).number b (fails_before_first test held k d (omega arith)) same
     ]
 
--- what is shown of a block that has a place
-pub view_place : (ps st : List ℕ) (n i : ℕ) (u : List ℕ) → Apart ps n → i < n → view ps st n (slice_index ps i) u ≡ block st i
-view_place ps st n i u apart h = view_at ps st n (slice_index ps i) i u h refl (λ j l e. same_place ps n j i apart l h e)
+-- a row in which no number stands twice
+abbrev pub Apart : List HeldBlock → Type 0
+Apart held = AllPairs (λ g h. g.number ≢ h.number) held
 
-pub view_same : (ps qs st su : List ℕ) (n b : ℕ) (u : List ℕ) → ((k : ℕ) → k < n → slice_index qs k ≡ slice_index ps k) → ((k : ℕ) → k < n → slice_index ps k ≡ b → block su k ≡ block st k) → view qs su n b u ≡ view ps st n b u
-view_same ps qs st su zero b u p s = refl
-view_same ps qs st su (suc n) b u p s =
-    let here = p n (omega arith) in
-    elim (cases_eq (slice_index ps n) b) [
-      | inl e ↦ rw (eq-eqb (slice_index qs n) b (here ∙ e), eq-eqb (slice_index ps n) b e) (s n (omega arith) e)
-      | inr ne ↦
-          rw (ne_eqb (slice_index qs n) b (λ f. ne (sym here ∙ f)), ne_eqb (slice_index ps n) b ne)
-          (view_same ps qs st su n b u (λ k l. p k (omega arith)) (λ k l. s k (omega arith)))
+-- a block with other bytes
+abbrev pub blank : HeldBlock
+blank = record { number = 0; bytes = [] }
+
+abbrev pub with_bytes : List HeldBlock → ℕ → List ℕ → HeldBlock
+with_bytes held i bytes = record { number = (slice_index_or held i blank).number; bytes = bytes }
+
+abbrev pub renewed : List HeldBlock → ℕ → List ℕ → List HeldBlock
+renewed held i bytes = slice_set held i (with_bytes held i bytes)
+
+pub renewed_numbers : (held : List HeldBlock) (i : ℕ) (bytes : List ℕ) → map (λ h. h.number) (renewed held i bytes) ≡ map (λ h. h.number) held
+renewed_numbers held i bytes = map-set_same (λ h. h.number) held i (with_bytes held i bytes) blank refl
+
+renewed_number : (held : List HeldBlock) (i k : ℕ) (bytes : List ℕ) (d : HeldBlock) → (slice_index_or (renewed held i bytes) k d).number ≡ (slice_index_or held k d).number
+renewed_number held i k bytes d =
+    sym (get_or-map (λ h. h.number) (renewed held i bytes) k d) ∙ ap (λ ns. slice_index_or ns k d.number) (renewed_numbers held i bytes) ∙ get_or-map (λ h. h.number) held k d
+
+pub renewed_apart : (held : List HeldBlock) (i : ℕ) (bytes : List ℕ) → Apart held → Apart (renewed held i bytes)
+renewed_apart held i bytes apart j k d l h e =
+    let long = length-set held i (with_bytes held i bytes) in
+    apart j k d l (omega arith) (sym (renewed_number held i j bytes d) ∙ e ∙ renewed_number held i k bytes d)
+
+module _ (held : List HeldBlock) (i : ℕ) (bytes : List ℕ) (apart : Apart held) (there : i < length held) where
+  abbrev number : ℕ
+  number = (slice_index_or held i blank).number
+
+  pub renew_here : held_block (renewed held i bytes) number ≡ Some (with_bytes held i bytes)
+  renew_here =
+      let first = position_or_len_is (λ h. h.number == number) held i blank (omega arith) (λ k l. ne_eqb (slice_index_or held k blank).number number (apart k i blank l there))
+      (λ _. eq-eqb number number refl) in
+      find-set (λ h. h.number == number) held i (with_bytes held i bytes) (sym first) there (eq-eqb number number refl)
+
+  pub renew_other : (b : ℕ) → (b ≢ number) → held_block (renewed held i bytes) b ≡ held_block held b
+  renew_other b ne =
+      let not = ne_eqb number b (λ e. ne (sym e)) in
+      find_past (λ h. h.number == b) held i (with_bytes held i bytes) blank not not
+
+-- a vector of blocks that was lent, and came back with other bytes in one
+pub rewritten : (v : ArrayVec HeldBlock) (held : List HeldBlock) (i : ℕ) (bytes : List ℕ) → held ≡ v.items → (with_items v (renewed held i bytes)).items ≡ renewed v.items i bytes
+rewritten v held i bytes same =
+    subst (λ hs. (with_items v (renewed hs i bytes)).items ≡ renewed v.items i bytes) (sym same)
+    (items-with_items v (renewed v.items i bytes) (length-set v.items i (with_bytes v.items i bytes)))
+
+-- a block behind the others
+module _ (held : List HeldBlock) (h : HeldBlock) where
+  pub last_other : (b : ℕ) → (b ≢ h.number) → held_block (held ++ h ∷ []) b ≡ held_block held b
+  last_other b ne = find-append (λ g. g.number == b) held (h ∷ []) ∙ rw (ne_eqb h.number b (λ e. ne (sym e))) (or_none (held_block held b))
+
+  pub last_here : IsNone (held_block held h.number) → held_block (held ++ h ∷ []) h.number ≡ Some h
+  last_here none = find-append (λ g. g.number == h.number) held (h ∷ []) ∙ rw (none_is (held_block held h.number) none, eq-eqb h.number h.number refl) refl
+
+-- what the place of a number says of what is held for it
+pub placed : (held : List HeldBlock) (b i : ℕ) → position (λ h. h.number == b) held ≡ Some i
+    → (i < length held) × ((slice_index_or held i blank).number ≡ b) × (held_block held b ≡ Some (slice_index_or held i blank))
+placed held b i place =
+    let at = position-Some (λ h. h.number == b) held i blank place in
+    let first = position_or_len_is (λ h. h.number == b) held i blank (omega (arith, at.0)) at.2 (λ _. at.1) in (
+      at.0,
+      eqb-true (slice_index_or held i blank).number b at.1,
+      find_at (λ h. h.number == b) held ∙ ap (slice_get held) first ∙ slice_get-get_or held i blank at.0,
+    )
+
+pub unplaced : (held : List HeldBlock) (b : ℕ) → position (λ h. h.number == b) held ≡ None → IsNone (held_block held b)
+unplaced held b none =
+    let test : HeldBlock → Bool = λ h. h.number == b in
+    elim (cases_lt (position_or_len test held) (length held)) [
+      | inl under ↦ let some : position test held ≡ Some (position_or_len test held) = rw (lt-ltb (position_or_len test held) (length held) under) refl in absurd (none-some _ (sym none ∙ some))
+      | inr over ↦ ap is_some (find_at test held ∙ slice_get_past held (position_or_len test held) over)
     ]
-
--- new bytes in a place that is taken
-module _ (ps st : List ℕ) (n i : ℕ) (bytes : List ℕ) (apart : Apart ps n) (taken : i < n) (within : i < whole (length st)) (size : length bytes ≡ block_size) where
-  pub renew_here : (u : List ℕ) → view ps (put st i bytes) n (slice_index ps i) u ≡ bytes
-  renew_here u = view_place ps (put st i bytes) n i u apart taken ∙ block_put st i bytes within size
-
-  pub renew_other : (b : ℕ) (u : List ℕ) → (b ≢ slice_index ps i) → view ps (put st i bytes) n b u ≡ view ps st n b u
-  renew_other b u ne =
-      view_same ps ps st (put st i bytes) n b u (λ k l. refl) (λ k l e. block_put_other st i k bytes within size (λ s. ne (sym e ∙ ap (λ x. slice_index ps x) s)))
-
--- a block in the next place
-module _ (ps st : List ℕ) (n at : ℕ) (bytes : List ℕ) (room : n < length ps) (within : n < whole (length st)) (size : length bytes ≡ block_size) where
-  pub add_here : (u : List ℕ) → view (slice_set ps n at) (put st n bytes) (n + 1) at u ≡ bytes
-  add_here u = rw (add-one, eq-eqb (slice_index (slice_set ps n at) n) at (get_or-set_same ps n at 0 room)) (block_put st n bytes within size)
-
-  pub add_other : (b : ℕ) (u : List ℕ) → (b ≢ at) → view (slice_set ps n at) (put st n bytes) (n + 1) b u ≡ view ps st n b u
-  add_other b u ne =
-      rw (add-one, ne_eqb (slice_index (slice_set ps n at) n) b (λ f. ne (sym f ∙ get_or-set_same ps n at 0 room)))
-      (view_same ps (slice_set ps n at) st (put st n bytes) n b u (λ k l. get_or-set_other ps n k at 0 (λ s. omega arith)) (λ k l e. block_put_other st n k bytes within size (λ s. omega arith)))
-
-  pub add_below : (m : ℕ) → Below ps n m → at < m → Below (slice_set ps n at) (n + 1) m
-  add_below m below h k l =
-      elim (cases_eq k n) [
-        | inl same ↦ rw (same, get_or-set_same ps n at 0 room) h
-        | inr other ↦ rw (get_or-set_other ps n k at 0 other) (below k (omega arith))
-      ]
-
-  pub add_apart : Apart ps n → Absent ps n at → Apart (slice_set ps n at) (n + 1)
-  add_apart apart absent i j (l, h) e =
-      let low = get_or-set_other ps n i at 0 (λ s. omega arith) in
-      elim (cases_eq j n) [
-        | inl same ↦ absent i (omega arith) (sym low ∙ e ∙ ap (λ x. slice_index (slice_set ps n at) x) same ∙ get_or-set_same ps n at 0 room)
-        | inr other ↦ apart i j (l, omega arith) (sym low ∙ e ∙ get_or-set_other ps n j at 0 other)
-      ]
-
-  pub add_absent : (b : ℕ) → (b ≢ at) → Absent ps n b → Absent (slice_set ps n at) (n + 1) b
-  add_absent b ne absent k l e =
-      elim (cases_eq k n) [
-        | inl same ↦ ne (sym e ∙ ap (λ x. slice_index (slice_set ps n at) x) same ∙ get_or-set_same ps n at 0 room)
-        | inr other ↦ absent k (omega arith) (sym (get_or-set_other ps n k at 0 other) ∙ e)
-      ]
-
--- the block in the last place put out
-module _ (ps st m : List ℕ) (n last : ℕ) (is : last + 1 ≡ n) (apart : Apart ps n) (below : Below ps n (whole (length m))) (within : last < whole (length st)) where
-  pub out_fits : slice_index_or ps last 0 < whole (length m)
-  out_fits = below last (omega arith)
-
-  pub out_here : (u : List ℕ) → view ps st n (slice_index ps last) u ≡ block st last
-  out_here u = view_place ps st n last u apart (omega arith)
-
-  pub out_other : (b : ℕ) (u : List ℕ) → (b ≢ slice_index ps last) → view ps st n b u ≡ view ps st last b u
-  out_other b u ne = ap (λ k. view ps st k b u) (sym is) ∙ rw (add-one, ne_eqb (slice_index ps last) b (λ f. ne (sym f)))
-
-  pub out_same : (b : ℕ) → view ps st last b (block (put m (slice_index ps last) (block st last)) b) ≡ view ps st n b (block m b)
-  out_same b =
-      let p = slice_index_or ps last 0 in
-      let size = bare_sized st last within in
-      elim (cases_eq b p) [
-        | inl same ↦
-            view_none ps st last b _ (λ k l e. apart k last (l, omega arith) (e ∙ same))
-            ∙ ap (block (put m p (block st last))) same ∙ block_put m p (block st last) out_fits size
-            ∙ sym (ap (λ x. view ps st n x (block m b)) same ∙ out_here (block m b))
-        | inr other ↦ ap (view ps st last b) (block_put_other m p b (block st last) out_fits size other) ∙ sym (out_other b (block m b) other)
-      ]
-
-  pub out_under : (b : ℕ) → (block (put m (slice_index ps last) (block st last)) b ≡ block m b) ⊎ (block (put m (slice_index ps last) (block st last)) b ≡ view ps st n b (block m b))
-  out_under b =
-      let p = slice_index_or ps last 0 in
-      let size = bare_sized st last within in
-      elim (cases_eq b p) [
-        | inl same ↦ inr (ap (block (put m p (block st last))) same ∙ block_put m p (block st last) out_fits size ∙ sym (ap (λ x. view ps st n x (block m b)) same ∙ out_here (block m b)))
-        | inr other ↦ inl (block_put_other m p b (block st last) out_fits size other)
-      ]

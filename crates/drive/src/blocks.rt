@@ -1,49 +1,39 @@
-ghost use Rattle.std.specs.Prelude.{◌≡◌, ◌<◌, length};
+ghost use Rattle.std.specs.Prelude.{◌≡◌, ℕ, ◌<◌, [], List, length, slice_index_or, IfOk, MatchResult};
+ghost use Rattle.answers.specs.Answer.{answered, refused};
 ghost use Rattle.drive.specs.Block.{block_size, whole, block, put};
-ghost use Rattle.drive.specs.Refusal.{answer, tested};
+ghost use Rattle.drive.specs.Refusal.{number_of, tested};
 
 use crate::limits::BLOCK_SIZE;
 use crate::refusal::DriveRefusal;
 
-// The test that every read and write makes first: block `at` of `count`, with a buffer of `size` bytes.
-pub(crate) fn test(count: usize, at: usize, size: usize) -> Result<(), DriveRefusal>
-    ensures value { answer result ≡ tested count at size }
+// The test that every read and write makes first: block `at` of `count`, with a buffer of a block's size, which comes back as one.
+pub(crate) fn test(
+    count: usize,
+    at: usize,
+    buffer: &[u8],
+) -> Result<&[u8; BLOCK_SIZE], DriveRefusal>
+    ensures value { MatchResult result (λ _. tested count at (length buffer.now) ≡ answered tt) (λ refusal. tested count at (length buffer.now) ≡ refused (number_of refusal) []) }
+    ensures fits { IfOk result (λ sized. (at < count) × (length buffer.now ≡ block_size) × (sized.now ≡ buffer.now)) }
 {
     if at >= count {
         return Err(DriveRefusal::NoSuchBlock);
     }
-    if size != BLOCK_SIZE {
-        return Err(DriveRefusal::WrongBuffer);
-    }
-    Ok(())
+    buffer.as_array().ok_or(DriveRefusal::WrongBuffer)
 }
 
-// Copies block `at` of `memory` into `buffer`.
-pub(crate) fn copy_out(memory: &[u8], at: usize, buffer: &mut [u8])
-    requires within { at < whole (length memory.now) }
-    requires size { length buffer.old ≡ block_size }
-    ensures copies { buffer.new ≡ block memory.now at }
+// The whole blocks of `memory`.
+pub(crate) fn blocks(memory: &[u8]) -> &[[u8; BLOCK_SIZE]]
+    ensures count { length result.now ≡ whole (length memory.now) }
+    ensures each { (b : ℕ) (d : List ℕ) → b < whole (length memory.now) → slice_index_or result.now b d ≡ block memory.now b }
 {
-    let start = at * BLOCK_SIZE;
-    buffer.copy_from_slice(&memory[start..start + BLOCK_SIZE]);
+    memory.as_chunks().0
 }
 
 // Puts `bytes` into block `at` of `memory`.
-pub(crate) fn copy_in(memory: &mut [u8], at: usize, bytes: &[u8])
+pub(crate) fn copy_in(memory: &mut [u8], at: usize, bytes: &[u8; BLOCK_SIZE])
     requires within { at < whole (length memory.old) }
-    requires size { length bytes.now ≡ block_size }
     ensures puts { memory.new ≡ put memory.old at bytes.now }
 {
     let start = at * BLOCK_SIZE;
     memory[start..start + BLOCK_SIZE].copy_from_slice(bytes);
-}
-
-// Puts block `i` of `from` into block `at` of `memory`.
-pub(crate) fn copy_across(from: &[u8], i: usize, memory: &mut [u8], at: usize)
-    requires there { i < whole (length from.now) }
-    requires within { at < whole (length memory.old) }
-    ensures puts { memory.new ≡ put memory.old at (block from.now i) }
-{
-    let start = i * BLOCK_SIZE;
-    copy_in(memory, at, &from[start..start + BLOCK_SIZE]);
 }

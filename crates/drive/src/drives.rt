@@ -17,9 +17,6 @@ pub trait ReadDrive {
     // How many blocks there are, and the bytes of each.
     ghost visible: { Self → Visible };
 
-    // Every block has 512 bytes.
-    ghost sized: { (d : Self) → Sized (visible d) };
-
     fn count(&self) -> usize
         ensures value { result ≡ (visible self.now).count };
 
@@ -27,6 +24,9 @@ pub trait ReadDrive {
     fn read(&self, at: usize, buffer: &mut [u8]) -> Result<(), DriveRefusal>
         ensures answers { answer result ≡ tested (visible self.now).count at (length buffer.old) }
         ensures copies { buffer.new ≡ if_answered (tested (visible self.now).count at (length buffer.old)) ((visible self.now).shown at) buffer.old };
+
+    // Every block has 512 bytes.
+    ghost sized: { (d : Self) → Sized (visible d) };
 }
 
 // What can be written too, with what a power cut may leave of it.

@@ -5,9 +5,9 @@ ghost use Rattle.drive.specs.Refusal.{number_of};
 #[derive(Clone, Copy, PartialEq, Eq, Debug)]
 pub enum DriveRefusal {
     // the drive has no block of that number
-    NoSuchBlock,
+    NoSuchBlock = 41,
     // the buffer is longer or shorter than a block
-    WrongBuffer,
+    WrongBuffer = 42,
 }
 
 impl DriveRefusal {
@@ -15,9 +15,6 @@ impl DriveRefusal {
     pub fn number(self) -> u32
         ensures value { result ≡ number_of self }
     {
-        match self {
-            DriveRefusal::NoSuchBlock => 41,
-            DriveRefusal::WrongBuffer => 42,
-        }
+        self as u32
     }
 }

@@ -4,7 +4,7 @@ ghost use Rattle.drive.specs.Block.{whole, block};
 ghost use Rattle.drive.specs.Refusal.{tested};
 ghost use Rattle.exports.specs.Code.{code};
 
-use drive::{BLOCK_SIZE, Drive, Image, Plain, ReadDrive};
+use drive::{BLOCK_SIZE, Drive, DriveRefusal, Image, Plain, ReadDrive};
 use std::alloc::Global;
 
 // Copies block `at` of `bytes` into `buffer`: 0, or the number of the refusal.
@@ -13,10 +13,8 @@ pub extern "C" fn lezdamir_read_block(bytes: &[u8], at: usize, buffer: &mut [u8]
     ensures value { result ≡ code (tested (whole (length bytes.now)) at (length buffer.old)) }
     ensures writes { buffer.new ≡ if_answered (tested (whole (length bytes.now)) at (length buffer.old)) (block bytes.now at) buffer.old }
 {
-    match Image::new(bytes).read(at, buffer) {
-        Ok(()) => 0,
-        Err(refusal) => refusal.number(),
-    }
+    let answer = Image::new(bytes).read(at, buffer);
+    answer.err().map_or(0, DriveRefusal::number)
 }
 
 // Writes the blocks of a drive in turn, `writes` times in all; what comes back is how many were not refused.
@@ -28,10 +26,7 @@ fn write_in_turn<D: Drive>(drive: &mut D, writes: usize) -> usize
     let count = drive.count();
     let mut answered = 0;
     for i in 0..writes {
-        let done = drive.write(i % count, &bytes);
-        if done.is_ok() {
-            answered += 1;
-        }
+        answered += usize::from(drive.write(i % count, &bytes).is_ok());
     }
     answered
 }

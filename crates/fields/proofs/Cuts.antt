@@ -59,8 +59,8 @@ cut_at x (b ∷ bs) (suc i) h none is =
     ∙ ap (λ o. bind o (prepend b)) (cut_at x bs i (omega arith) (λ k l. none (suc k) (omega arith)) is)
 
 -- the cut, from what a search found
-pub found_none : (x : ℕ) (bs : List ℕ) (i : ℕ) → Found x bs i → i ≡ length bs → cut x bs ≡ None
-found_none x bs i f e = cut_none x bs (λ k h. f.before k (omega arith))
+pub found_none : (x : ℕ) (bs : List ℕ) → Found x bs None → cut x bs ≡ None
+found_none x bs f = cut_none x bs f
 
-pub found_at : (x : ℕ) (bs : List ℕ) (i : ℕ) → Found x bs i → i < length bs → cut x bs ≡ Some (take i bs, drop (suc i) bs)
-found_at x bs i f h = cut_at x bs i h f.before (f.found h)
+pub found_at : (x : ℕ) (bs : List ℕ) (i : ℕ) → Found x bs (Some i) → cut x bs ≡ Some (take i bs, drop (suc i) bs)
+found_at x bs i f = cut_at x bs i f.0 f.2 f.1

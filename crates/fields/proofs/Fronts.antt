@@ -14,10 +14,10 @@ abbrev pub rest_at : List ℕ → ℕ → List ℕ
 rest_at bs a = take (length bs - a) (drop a bs)
 
 abbrev pub text_at : List ℕ → ℕ → ℕ → List ℕ
-text_at bs a e = take (e - 0) (rest_at bs a)
+text_at bs a e = take e (rest_at bs a)
 
 abbrev pub tag_at : List ℕ → ℕ → ℕ → ℕ → List ℕ
-tag_at bs a e q = take (q - 0) (text_at bs a e)
+tag_at bs a e q = take q (text_at bs a e)
 
 abbrev pub value_at : List ℕ → ℕ → ℕ → ℕ → List ℕ
 value_at bs a e q = take (length (text_at bs a e) - (q + 1)) (drop (q + 1) (text_at bs a e))
@@ -28,33 +28,26 @@ of_text rest q = bind (numeral 1 99 q.0) (of_tag q.1 rest)
 abbrev of_rest : List ℕ × List ℕ → Option Front
 of_rest p = bind (cut 61 p.0) (of_text p.1)
 
-module _ (bs : List ℕ) (a e : ℕ) (end : Found 1 (rest_at bs a) e) where
-  pub no_end : e ≡ length (rest_at bs a) → front (drop a bs) ≡ None
+module _ (bs : List ℕ) (a : ℕ) where
+  pub no_end : Found 1 (rest_at bs a) None → front (drop a bs) ≡ None
   unfolding front
-  no_end all = ap (λ o. bind o of_rest) (ap (cut 1) (sym (take_rest bs a)) ∙ found_none 1 (rest_at bs a) e end all)
+  no_end none = ap (λ o. bind o of_rest) (ap (cut 1) (sym (take_rest bs a)) ∙ found_none 1 (rest_at bs a) none)
 
-  module _ (some : e < length (rest_at bs a)) where
+  module _ (e : ℕ) (end : Found 1 (rest_at bs a) (Some e)) where
     at_end : front (drop a bs) ≡ of_rest (text_at bs a e, drop (a + e + 1) bs)
     unfolding front
     at_end =
         let here : a + suc e ≡ a + e + 1 = omega arith in
-        ap (λ l. bind (cut 1 l) of_rest) (sym (take_rest bs a)) ∙ ap (λ o. bind o of_rest) (found_at 1 (rest_at bs a) e end some)
-        ∙ ap (λ l. of_rest (take l (rest_at bs a), drop (suc e) (rest_at bs a))) (sym (sub-zero e))
+        ap (λ l. bind (cut 1 l) of_rest) (sym (take_rest bs a)) ∙ ap (λ o. bind o of_rest) (found_at 1 (rest_at bs a) e end)
         ∙ ap (λ l. of_rest (text_at bs a e, l)) (ap (drop (suc e)) (take_rest bs a) ∙ drop-drop (suc e) a bs ∙ ap (λ n. drop n bs) here)
 
-    module _ (q : ℕ) (equals : Found 61 (text_at bs a e) q) where
-      long : length (text_at bs a e) ≡ e
-      long = ap (λ n. length (take n (rest_at bs a))) (sub-zero e) ∙ length-take-le e (rest_at bs a) (omega arith)
+    pub no_equals : Found 61 (text_at bs a e) None → front (drop a bs) ≡ None
+    no_equals none = at_end ∙ ap (λ o. bind o (of_text (drop (a + e + 1) bs))) (found_none 61 (text_at bs a e) none)
 
-      pub no-equals : q ≡ e → front (drop a bs) ≡ None
-      no-equals all = at_end ∙ ap (λ o. bind o (of_text (drop (a + e + 1) bs))) (found_none 61 (text_at bs a e) q equals (all ∙ sym long))
-
-      pub at_tag : q < e → front (drop a bs) ≡ bind (numeral 1 99 (tag_at bs a e q)) (of_tag (value_at bs a e q) (drop (a + e + 1) bs))
-      at_tag less =
-          let l = long in
-          at_end ∙ ap (λ o. bind o (of_text (drop (a + e + 1) bs))) (found_at 61 (text_at bs a e) q equals (omega arith))
-          ∙ ap (λ n. of_text (drop (a + e + 1) bs) (take n (text_at bs a e), drop (suc q) (text_at bs a e))) (sym (sub-zero q))
-          ∙ ap (λ v. of_text (drop (a + e + 1) bs) (tag_at bs a e q, v)) (ap (λ n. drop n (text_at bs a e)) (sym (add-one q)) ∙ sym (take_rest (text_at bs a e) (q + 1)))
+    pub at_tag : (q : ℕ) → Found 61 (text_at bs a e) (Some q) → front (drop a bs) ≡ bind (numeral 1 99 (tag_at bs a e q)) (of_tag (value_at bs a e q) (drop (a + e + 1) bs))
+    at_tag q equals =
+        at_end ∙ ap (λ o. bind o (of_text (drop (a + e + 1) bs))) (found_at 61 (text_at bs a e) q equals)
+        ∙ ap (λ v. of_text (drop (a + e + 1) bs) (tag_at bs a e q, v)) (ap (λ n. drop n (text_at bs a e)) (sym (add-one q)) ∙ sym (take_rest (text_at bs a e) (q + 1)))
 
 -- by the number in the tag
 module _ (l : Option Front) (o : Option ℕ) (v r : List ℕ) (is : l ≡ bind o (of_tag v r)) where

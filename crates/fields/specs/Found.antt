@@ -4,11 +4,10 @@ use Rattle.fields.specs.declared.field.Field.{Field}
 use Rattle.fields.specs.Field.{front}
 use Rattle.fields.specs.Kind.{tag_of, value_of}
 
--- i is the place of the first x, or the length where there is none
-pub record Found (x : ℕ) (bytes : List ℕ) (i : ℕ) : Type 0 where
-  pub within : i ≤ length bytes
-  pub before : (k : ℕ) → k < i → slice_index bytes k ≢ x
-  pub found : i < length bytes → slice_index bytes i ≡ x
+-- the place of the first x, if there is one
+abbrev pub Found : ℕ → List ℕ → Option ℕ → Type 0
+Found x bytes None = (k : ℕ) → k < length bytes → slice_index bytes k ≢ x
+Found x bytes (Some i) = (i < length bytes) × (slice_index bytes i ≡ x) × ((k : ℕ) → k < i → slice_index bytes k ≢ x)
 
 -- the field that starts at a place, and the place where it ends
 abbrev pub FieldAt : List ℕ → ℕ → Option (Field × ℕ) → Type 0

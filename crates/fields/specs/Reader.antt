@@ -52,6 +52,12 @@ abbrev pub Reads : {X A : Type 0} → (List ℕ → Read A) → (X → A) → Re
 Reads read figures before after (Ok x) = read (left before) ≡ right (figures x) (left after)
 Reads read figures before after (Err w) = (read (left before) ≡ wrong (drop w.place (source before))) × (w.place ≤ length (source before))
 
+-- a step of a reader: its bytes stay, it stands no earlier than it did, and it read what `read` says
+pub record Walked {X A : Type 0} (read : List ℕ → Read A) (figures : X → A) (before after : Reader) (result : Result X WrongField) : Type 0 where
+  pub source : source after ≡ source before
+  pub ahead : place before ≤ place after
+  pub reads : Reads read figures before after result
+
 abbrev pub Next : Reader → Reader → Result Placed WrongField → Type 0
 Next before after (Ok p) = (front (left before) ≡ Some (record { tag = tag_of p.field; value = value_of p.field; rest = left after })) × (p.place ≡ place before)
 Next before after (Err w) = (front (left before) ≡ None) × (w.place ≡ place before)

@@ -1,5 +1,5 @@
 -- A whole message: what is written is read back, and nothing else is read.
-use Rattle.std.proofs.Common.{◌≡◌, ℕ, ◌-◌, ◌%◌, ◌<◌, eqb, List, [], ◌∷◌, ◌++◌, length, get_or, take, drop, sum, sym, refl, ap, ◌∙◌, subst, ⊎_elim, append_assoc, append-nil, arith, length-append}
+use Rattle.std.proofs.Common.{◌≡◌, ℕ, ◌-◌, ◌%◌, ◌<◌, ◌≤◌, eqb, List, [], ◌∷◌, ◌++◌, length, get_or, take, drop, sum, sym, refl, ap, ◌∙◌, subst, ⊎_elim, append_assoc, append-nil, arith, length-append}
 use Rattle.std.proofs.lemmas.Bool.{cases_Bool, eqb-true, eq-eqb, cond-true, cond-false}
 use Rattle.std.proofs.lemmas.List.{take_at}
 use Rattle.answers.specs.Answer.{Answer, answered, refused}
@@ -11,7 +11,7 @@ use Rattle.fix.specs.Layout.{check_sum, header}
 use Rattle.fix.specs.Message.{Form, form, values_of, command_of, checked, whole, parse, with_length, leading, parse_first, body_by, front_by, render}
 use Rattle.fix.proofs.Checks.{command_back}
 use Rattle.fix.proofs.Values.{kind_of, fits, values_back}
-use Rattle.fix.proofs.Lengths.{body_length}
+use Rattle.fix.proofs.Lengths.{body_length, render_length}
 use Rattle.fix.proofs.Forms.{form_back, form_only}
 
 -- the count and the sum of a message of three parts
@@ -140,6 +140,15 @@ leading_answered bs (right f rest) c n is e =
 pub first_read_is_written : (bs : List ℕ) (c : Command) (n : ℕ) → parse_first bs ≡ answered (c, n) → (rest : List ℕ) × (bs ≡ render c ++ rest) × (n ≡ length (render c)) × Valid c
 unfolding parse_first
 first_read_is_written bs c n e = leading_answered bs (form bs) c n refl e
+
+-- a message that was taken has 42 bytes or more, and lies within the run
+pub first_takes : (bs : List ℕ) (c : Command) (n : ℕ) → parse_first bs ≡ answered (c, n) → (42 ≤ n) × (n ≤ length bs)
+first_takes bs c n e =
+    let taken = first_read_is_written bs c n e in
+    let size = body_length c taken.3 in
+    let long = render_length c taken.3 in
+    let whole = ap length taken.1 ∙ length-append (render c) taken.0 in
+    (omega (arith, taken.2), omega (arith, taken.2))
 
 -- nothing is no message
 pub first_of_nothing : parse_first [] ≡ refused 11 (0 ∷ [])

@@ -100,6 +100,3 @@ module _ (fs : List Numbered) (i : ℕ) (h : i < length fs) where
 
   pub next : numbers (drop i fs) ≡ text_of here ++ numbers (drop (i + 1) fs)
   next = at_drop_more numbers fs i nothing h
-
-  pub next_length : length (numbers (drop i fs)) ≡ length (decimal here.tag) + (length (decimal here.number) + 2) + length (numbers (drop (i + 1) fs))
-  next_length = ap length next ∙ length-append (text_of here) (numbers (drop (i + 1) fs)) ∙ ap (λ n. n + length (numbers (drop (i + 1) fs))) (written_length here.tag (decimal here.number))

@@ -1,6 +1,15 @@
 // Commands. Their ranges are invariants of the types, so that no command out of range can exist.
 ghost use Rattle.fix.specs.Range.{Within, largest_member, largest_number, largest_lots, largest_price};
 
+/// Each figure starts at 1.
+pub(crate) const LARGEST_MEMBER: u32 = 9_999;
+/// Of a command, and of an order.
+pub(crate) const LARGEST_NUMBER: u32 = 999_999_999;
+
+pub(crate) const LARGEST_LOTS: u32 = 999_999;
+
+pub(crate) const LARGEST_PRICE: u32 = 999_999;
+
 #[derive(Clone, Copy, PartialEq, Eq, Debug)]
 pub enum Side {
     Buy,

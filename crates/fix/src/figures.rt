@@ -1,19 +1,12 @@
 // The number of a side, and commands made of figures that may be out of range.
-ghost use Rattle.std.specs.Prelude.{◌≡◌};
+ghost use Rattle.std.specs.Prelude.{◌≡◌, cond, Ok, Err};
 ghost use Rattle.fix.specs.Message.{side_number};
-ghost use Rattle.fix.specs.Refusal.{order_answer, cancel_answer, tested_order, tested_cancel};
+ghost use Rattle.fix.specs.Refusal.{order_answer, cancel_answer, tested_order, tested_cancel, within as is_within};
 
-use crate::command::{Cancel, NewOrder, Side};
+use crate::command::{
+    Cancel, LARGEST_LOTS, LARGEST_MEMBER, LARGEST_NUMBER, LARGEST_PRICE, NewOrder, Side,
+};
 use crate::refusal::OutOfRange;
-
-/// Each figure starts at 1.
-const LARGEST_MEMBER: u32 = 9_999;
-/// Of a command, and of an order.
-const LARGEST_NUMBER: u32 = 999_999_999;
-
-const LARGEST_LOTS: u32 = 999_999;
-
-const LARGEST_PRICE: u32 = 999_999;
 
 impl Side {
     /// Its number in field 54.
@@ -39,21 +32,11 @@ impl NewOrder {
     ) -> Result<NewOrder, OutOfRange>
         ensures answer { order_answer result ≡ tested_order (record { member = member; number = number; order = order; side = side; lots = lots; price = price }) }
     {
-        if member == 0 || member > LARGEST_MEMBER {
-            return Err(OutOfRange::Member);
-        }
-        if number == 0 || number > LARGEST_NUMBER {
-            return Err(OutOfRange::Number);
-        }
-        if order == 0 || order > LARGEST_NUMBER {
-            return Err(OutOfRange::Order);
-        }
-        if lots == 0 || lots > LARGEST_LOTS {
-            return Err(OutOfRange::Lots);
-        }
-        if price == 0 || price > LARGEST_PRICE {
-            return Err(OutOfRange::Price);
-        }
+        within(member, LARGEST_MEMBER, OutOfRange::Member)?;
+        within(number, LARGEST_NUMBER, OutOfRange::Number)?;
+        within(order, LARGEST_NUMBER, OutOfRange::Order)?;
+        within(lots, LARGEST_LOTS, OutOfRange::Lots)?;
+        within(price, LARGEST_PRICE, OutOfRange::Price)?;
         Ok(NewOrder {
             member,
             number,
@@ -70,19 +53,23 @@ impl Cancel {
     pub fn new(member: u32, number: u32, order: u32) -> Result<Cancel, OutOfRange>
         ensures answer { cancel_answer result ≡ tested_cancel (record { member = member; number = number; order = order }) }
     {
-        if member == 0 || member > LARGEST_MEMBER {
-            return Err(OutOfRange::Member);
-        }
-        if number == 0 || number > LARGEST_NUMBER {
-            return Err(OutOfRange::Number);
-        }
-        if order == 0 || order > LARGEST_NUMBER {
-            return Err(OutOfRange::Order);
-        }
+        within(member, LARGEST_MEMBER, OutOfRange::Member)?;
+        within(number, LARGEST_NUMBER, OutOfRange::Number)?;
+        within(order, LARGEST_NUMBER, OutOfRange::Order)?;
         Ok(Cancel {
             member,
             number,
             order,
         })
     }
+}
+
+/// Tests that a figure is from 1 to the largest.
+fn within(n: u32, largest: u32, otherwise: OutOfRange) -> Result<(), OutOfRange>
+    ensures { result ≡ cond (is_within largest n) (Ok tt) (Err otherwise) }
+{
+    if n == 0 || n > largest {
+        return Err(otherwise);
+    }
+    Ok(())
 }

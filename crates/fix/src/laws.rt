@@ -1,7 +1,7 @@
 // A command has exactly one spelling, and it is read back.
 ghost use Rattle.fix.specs.Law.{WrittenIsRead, ReadIsWritten, FirstWrittenIsRead, FirstReadIsWritten, CommandsAreValid, Lengths, WorkedExample};
 
-pub fn one_spelling() -> u8
+pub fn one_spelling()
     ensures back { WrittenIsRead }
     ensures only { ReadIsWritten }
     ensures first_back { FirstWrittenIsRead }
@@ -9,6 +9,4 @@ pub fn one_spelling() -> u8
     ensures valid { CommandsAreValid }
     ensures lengths { Lengths }
     ensures example { WorkedExample }
-{
-    0
-}
+{}

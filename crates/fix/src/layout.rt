@@ -1,6 +1,6 @@
 // The fields of a message, one after the other.
-ghost use Rattle.std.specs.Prelude.{◌≡◌, ◌≤◌, IfOk, codes};
-ghost use Rattle.fields.specs.Reader.{source, place as place_of, Reads};
+ghost use Rattle.std.specs.Prelude.{◌≡◌, IfOk, codes};
+ghost use Rattle.fields.specs.Reader.{source, Walked};
 ghost use Rattle.fields.specs.Row.{row, step, number as number_shape};
 ghost use Rattle.fix.specs.Command.{figures, order_figures, cancel_figures};
 ghost use Rattle.fix.specs.Layout.{version as version_shape, kind as kind_shape, check_sum, new_order_fields, cancel_fields};
@@ -8,7 +8,9 @@ ghost use Rattle.fix.specs.Message.{side_number, new_order_values, cancel_values
 ghost use Rattle.fix.specs.Step.{letter_of, form_of, Ordered};
 ghost use Rattle.std.specs.Str.{bytes_eq};
 
-use crate::command::{Cancel, Command, NewOrder, Side};
+use crate::command::{
+    Cancel, Command, LARGEST_LOTS, LARGEST_MEMBER, LARGEST_NUMBER, LARGEST_PRICE, NewOrder, Side,
+};
 use fields::{Field, Placed, Reader, WrongField};
 
 #[derive(Clone, Copy)]
@@ -29,8 +31,7 @@ pub(crate) struct Form {
 }
 
 pub(crate) fn read_form(reader: &mut Reader<'_>) -> Result<Form, WrongField>
-    ensures source { source reader.new ≡ source reader.old }
-    ensures reads { Reads form_of_bytes (form_of (source reader.old)) reader.old reader.new result }
+    ensures walked { Walked form_of_bytes (form_of (source reader.old)) reader.old reader.new result }
     ensures ordered { IfOk result (Ordered (source reader.old)) }
 {
     read_version(reader)?;
@@ -50,9 +51,7 @@ pub(crate) fn read_form(reader: &mut Reader<'_>) -> Result<Form, WrongField>
 
 /// The kind, and the fields that it has.
 fn read_command(reader: &mut Reader<'_>) -> Result<Command, WrongField>
-    ensures source { source reader.new ≡ source reader.old }
-    ensures ahead { place_of reader.old ≤ place_of reader.new }
-    ensures reads { Reads body_values (λ c. values_of (figures c)) reader.old reader.new result }
+    ensures { Walked body_values (λ c. values_of (figures c)) reader.old reader.new result }
 {
     match read_kind(reader)? {
         Kind::New => Ok(Command::New(read_new_order(reader)?)),
@@ -61,16 +60,14 @@ fn read_command(reader: &mut Reader<'_>) -> Result<Command, WrongField>
 }
 
 fn read_new_order(reader: &mut Reader<'_>) -> Result<NewOrder, WrongField>
-    ensures source { source reader.new ≡ source reader.old }
-    ensures ahead { place_of reader.old ≤ place_of reader.new }
-    ensures reads { Reads (row new_order_fields) (λ o. new_order_values (order_figures o)) reader.old reader.new result }
+    ensures { Walked (row new_order_fields) (λ o. new_order_values (order_figures o)) reader.old reader.new result }
 {
-    let member = reader.number(49, 1, 9_999)?;
-    let number = reader.number(34, 1, 999_999_999)?;
-    let order = reader.number(11, 1, 999_999_999)?;
+    let member = reader.number(49, 1, LARGEST_MEMBER)?;
+    let number = reader.number(34, 1, LARGEST_NUMBER)?;
+    let order = reader.number(11, 1, LARGEST_NUMBER)?;
     let side = read_side(reader)?;
-    let lots = reader.number(38, 1, 999_999)?;
-    let price = reader.number(44, 1, 999_999)?;
+    let lots = reader.number(38, 1, LARGEST_LOTS)?;
+    let price = reader.number(44, 1, LARGEST_PRICE)?;
     Ok(NewOrder {
         member,
         number,
@@ -82,13 +79,11 @@ fn read_new_order(reader: &mut Reader<'_>) -> Result<NewOrder, WrongField>
 }
 
 fn read_cancel(reader: &mut Reader<'_>) -> Result<Cancel, WrongField>
-    ensures source { source reader.new ≡ source reader.old }
-    ensures ahead { place_of reader.old ≤ place_of reader.new }
-    ensures reads { Reads (row cancel_fields) (λ o. cancel_values (cancel_figures o)) reader.old reader.new result }
+    ensures { Walked (row cancel_fields) (λ o. cancel_values (cancel_figures o)) reader.old reader.new result }
 {
-    let member = reader.number(49, 1, 9_999)?;
-    let number = reader.number(34, 1, 999_999_999)?;
-    let order = reader.number(41, 1, 999_999_999)?;
+    let member = reader.number(49, 1, LARGEST_MEMBER)?;
+    let number = reader.number(34, 1, LARGEST_NUMBER)?;
+    let order = reader.number(41, 1, LARGEST_NUMBER)?;
     Ok(Cancel {
         member,
         number,
@@ -97,9 +92,7 @@ fn read_cancel(reader: &mut Reader<'_>) -> Result<Cancel, WrongField>
 }
 
 fn read_version(reader: &mut Reader<'_>) -> Result<(), WrongField>
-    ensures source { source reader.new ≡ source reader.old }
-    ensures ahead { place_of reader.old ≤ place_of reader.new }
-    ensures reads { Reads (step version_shape) (λ _. 0) reader.old reader.new result }
+    ensures { Walked (step version_shape) (λ _. 0) reader.old reader.new result }
 {
     let Placed { field, place } = reader.next()?;
     match field {
@@ -116,9 +109,7 @@ fn is_version(value: &[u8]) -> bool
 }
 
 fn read_kind(reader: &mut Reader<'_>) -> Result<Kind, WrongField>
-    ensures source { source reader.new ≡ source reader.old }
-    ensures ahead { place_of reader.old ≤ place_of reader.new }
-    ensures reads { Reads (step kind_shape) letter_of reader.old reader.new result }
+    ensures { Walked (step kind_shape) letter_of reader.old reader.new result }
 {
     let Placed { field, place } = reader.next()?;
     match field {
@@ -129,9 +120,7 @@ fn read_kind(reader: &mut Reader<'_>) -> Result<Kind, WrongField>
 }
 
 fn read_side(reader: &mut Reader<'_>) -> Result<Side, WrongField>
-    ensures source { source reader.new ≡ source reader.old }
-    ensures ahead { place_of reader.old ≤ place_of reader.new }
-    ensures reads { Reads (step (number_shape 54 1 2)) side_number reader.old reader.new result }
+    ensures { Walked (step (number_shape 54 1 2)) side_number reader.old reader.new result }
 {
     match reader.number(54, 1, 2)? {
         1 => Ok(Side::Buy),
@@ -141,8 +130,7 @@ fn read_side(reader: &mut Reader<'_>) -> Result<Side, WrongField>
 
 /// Three digits, 000 to 999.
 fn read_check_sum(reader: &mut Reader<'_>) -> Result<u32, WrongField>
-    ensures source { source reader.new ≡ source reader.old }
-    ensures reads { Reads (step check_sum) (λ n. n) reader.old reader.new result }
+    ensures { Walked (step check_sum) (λ n. n) reader.old reader.new result }
 {
     let Placed { field, place } = reader.next()?;
     let Field::CheckSum([a, b, c]) = field else {

@@ -62,9 +62,5 @@ fn check(bytes: &[u8], form: &Form) -> Result<Command, MessageRefusal>
 pub(crate) fn sum_of(bytes: &[u8]) -> u8
     ensures { result ≡ sum bytes.now % 256 }
 {
-    let mut sum: u8 = 0;
-    for b in bytes {
-        sum = sum.wrapping_add(*b);
-    }
-    sum
+    bytes.iter().fold(0u8, |sum, b| sum.wrapping_add(*b))
 }

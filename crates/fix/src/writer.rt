@@ -17,6 +17,16 @@ pub(crate) struct Numbered {
     pub(crate) number: u32,
 }
 
+impl Numbered {
+    /// How long it is.
+    fn length(&self) -> usize
+        ensures value { result ≡ length (written self.now.tag (decimal self.now.number)) }
+        ensures few { result ≤ 22 }
+    {
+        digits(self.tag) + digits(self.number) + 2
+    }
+}
+
 impl<'a> Writer<'a> {
     /// A writer that stands at the first byte.
     pub(crate) fn new(out: &'a mut [u8]) -> Writer<'a>
@@ -119,14 +129,9 @@ fn put_decimal(out: &mut [u8], at: usize, n: u32) -> usize
 /// How long these fields are.
 pub(crate) fn numbers_length(fields: &[Numbered]) -> usize
     requires few { length fields.now ≤ 6 }
-    ensures value { result ≡ length (numbers fields.now) }
-    ensures few { result ≤ 22 * length fields.now }
+    ensures { result ≡ length (numbers fields.now) }
 {
-    let mut sum = 0;
-    for field in fields {
-        sum += digits(field.tag) + digits(field.number) + 2;
-    }
-    sum
+    fields.iter().map(Numbered::length).sum()
 }
 
 /// How many digits a number has.

@@ -1,14 +1,14 @@
 use fix::Side;
 
-/// Why a command is turned down.
+/// Why a command is turned down, with FIX's number of the reason.
 #[derive(Clone, Copy, PartialEq, Eq, Debug)]
 pub enum Reason {
     /// As many orders rest as a book holds, and the new one would trade with none.
-    BookFull,
+    BookFull = 3,
     /// No order of that member with that number rests.
-    UnknownOrder,
+    UnknownOrder = 5,
     /// An order of that member with that number rests already.
-    DuplicateOrder,
+    DuplicateOrder = 6,
 }
 
 /// What happened to an order.

@@ -24,11 +24,7 @@ impl Reason {
     pub fn number(self) -> u32
         ensures value { result ≡ reason_number self }
     {
-        match self {
-            Reason::BookFull => 3,
-            Reason::UnknownOrder => 5,
-            Reason::DuplicateOrder => 6,
-        }
+        self as u32
     }
 }
 

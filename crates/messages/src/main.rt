@@ -15,21 +15,16 @@ fn list(rt: &HostRuntime) -> anyhow::Result<()> {
     println!(rt; "{HEADER}")?;
     let mut feed = Feed::new(&bytes);
     let mut orders = 0usize;
-    // each turn takes a message of at least a byte, or is the last
-    for _ in 0..=bytes.len() {
-        let Some(next) = feed.next() else {
-            break;
-        };
-        match next {
+    for message in feed.messages() {
+        match message {
             Ok(command) => {
                 let row = Row(command);
                 println!(rt; "{row}")?;
-                orders = orders.saturating_add(is_order(command));
+                if let Command::New(_) = command {
+                    orders = orders.saturating_add(1);
+                }
             }
-            Err(stopped) => {
-                println!(rt; "{stopped}")?;
-                break;
-            }
+            Err(stopped) => println!(rt; "{stopped}")?,
         }
     }
     let messages = feed.taken();
@@ -37,11 +32,4 @@ fn list(rt: &HostRuntime) -> anyhow::Result<()> {
     let place = feed.place();
     println!(rt; "total\t{messages} messages\t{orders} new\t{cancels} cancel\t{place} bytes")?;
     Ok(())
-}
-
-fn is_order(command: Command) -> usize {
-    match command {
-        Command::New(_) => 1,
-        Command::Cancel(_) => 0,
-    }
 }

@@ -131,3 +131,6 @@ module _ {K V : Type 0} (order : K → K → Ordering) where
   first_value total (n ∷ ns) node w e =
       let same : n ≡ node = cc in
       sym (cond-true (is_eq (order n.key node.key)) _ _ (ap (λ (m : Node K V). is_eq (order n.key m.key)) (sym same) ∙ eq_itself order total n.key))
+
+  pub sound_value : (map : Kept K V) (key : K) (w : V) → Sound order map → Sound order (with_nodes map (with_value order map.nodes key w))
+  sound_value map key w s = record { ascends = ascending_value map.nodes key w ∙ s.ascends; inside = omega (arith, s.inside, length_value map.nodes key w) }

@@ -137,3 +137,33 @@ fn order_id(number: u8) -> OrderId {
 fn orders_as_in_a_table(rt: HostRuntime) -> Result<(), Fail> {
     as_in_a_table(&rt, rt.alloc(), order_id)
 }
+
+#[test]
+fn values_change_where_they_lie(rt: HostRuntime) -> Result<(), Fail> {
+    let mut map = OrderedMap::new(rt.alloc(), 3)?;
+    for number in [5, 2, 8] {
+        let _ = map.insert(Node {
+            key: Price(number),
+            value: number,
+        });
+    }
+    if let Some(value) = map.get_mut(&Price(5)) {
+        *value = 50;
+    }
+    if let Some(value) = map.first_mut() {
+        *value = 20;
+    }
+    assert!(rt; map.get_mut(&Price(4)).is_none());
+    let made = |key: u32, value: u32| Node {
+        key: Price(key),
+        value,
+    };
+    assert_eq!(rt;
+        map.nodes(),
+        [made(2, 20), made(5, 50), made(8, 8)].as_slice()
+    );
+    assert_eq!(rt; map.pop_first(), Some(made(2, 20)));
+    assert_eq!(rt; map.pop_last(), Some(made(8, 8)));
+    assert_eq!(rt; map.nodes(), [made(5, 50)].as_slice());
+    Ok(())
+}

@@ -7,7 +7,6 @@ mod entries;
 
 use crate::entries::{ENTRY_HEADER, EntryRow, LEVEL_HEADER, Totals};
 use allocation::Policy;
-use anyhow::anyhow;
 use book::{Book, MOST_ENTRIES};
 use console::Feed;
 use fix::Side;
@@ -19,20 +18,30 @@ pub fn trade<P: Policy>(rt: &HostRuntime, policy: &P) -> anyhow::Result<()> {
     let mut bytes = Vec::new(rt.alloc());
     rt.stdin().read_to_end(&mut bytes)?;
     let mut book = Book::new(rt.alloc())?;
+    let totals = trade_all(rt, policy, &mut book, &bytes)?;
+    println!(rt; "\n{LEVEL_HEADER}")?;
+    print_side(rt, &book, Side::Buy)?;
+    print_side(rt, &book, Side::Sell)?;
+    let resting = book.len();
+    println!(rt; "\n{totals}\t{resting} orders rest")?;
+    Ok(())
+}
+
+/// Puts each message through the book, prints its entries, and counts them. A refused message ends the run.
+fn trade_all<P: Policy>(
+    rt: &HostRuntime,
+    policy: &P,
+    book: &mut Book,
+    bytes: &[u8],
+) -> anyhow::Result<Totals> {
     let mut list = vec![in rt.alloc(); Entry::BLANK; MOST_ENTRIES]?;
     let mut totals = Totals::default();
     println!(rt; "{ENTRY_HEADER}")?;
-    let mut feed = Feed::new(&bytes);
-    // each turn takes a message of at least a byte, or is the last
-    for _ in 0..=bytes.len() {
-        let Some(next) = feed.next() else {
-            break;
-        };
-        match next {
+    let mut feed = Feed::new(bytes);
+    for message in feed.messages() {
+        match message {
             Ok(command) => {
-                let Ok(count) = book.put_through(policy, &command, list.as_mut_slice()) else {
-                    return Err(anyhow!("the list of entries is too short"));
-                };
+                let count = book.put_through(policy, &command, list.as_mut_slice())?;
                 totals.command();
                 for entry in list.iter().take(count) {
                     let row = EntryRow(*entry);
@@ -40,18 +49,10 @@ pub fn trade<P: Policy>(rt: &HostRuntime, policy: &P) -> anyhow::Result<()> {
                     totals.count(entry.event);
                 }
             }
-            Err(stopped) => {
-                println!(rt; "{stopped}")?;
-                break;
-            }
+            Err(stopped) => println!(rt; "{stopped}")?,
         }
     }
-    println!(rt; "\n{LEVEL_HEADER}")?;
-    print_side(rt, &book, Side::Buy)?;
-    print_side(rt, &book, Side::Sell)?;
-    let resting = book.len();
-    println!(rt; "\n{totals}\t{resting} orders rest")?;
-    Ok(())
+    Ok(totals)
 }
 
 fn print_side(rt: &HostRuntime, book: &Book, side: Side) -> anyhow::Result<()> {

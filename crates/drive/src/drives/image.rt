@@ -2,9 +2,8 @@ ghost use Rattle.std.specs.Prelude.{◌≡◌};
 ghost use Rattle.drive.specs.Plain.{bare_visible};
 ghost use Rattle.drive.specs.Size.{bare_sized};
 
-use crate::blocks::{copy_out, test};
+use crate::blocks::{blocks, test};
 use crate::drives::ReadDrive;
-use crate::limits::BLOCK_SIZE;
 use crate::refusal::DriveRefusal;
 
 // Bytes that stand elsewhere, to be read only.
@@ -24,15 +23,15 @@ impl<'a> Image<'a> {
 impl<'a> ReadDrive for Image<'a> {
     ghost visible = { λ d. bare_visible d.bytes.now };
 
-    ghost sized = { λ d. bare_sized d.bytes.now };
-
     fn count(&self) -> usize {
-        self.bytes.len() / BLOCK_SIZE
+        blocks(self.bytes).len()
     }
 
     fn read(&self, at: usize, buffer: &mut [u8]) -> Result<(), DriveRefusal> {
-        test(self.count(), at, buffer.len())?;
-        copy_out(self.bytes, at, buffer);
+        test(self.count(), at, buffer)?;
+        buffer.copy_from_slice(&blocks(self.bytes)[at]);
         Ok(())
     }
+
+    ghost sized = { λ d. bare_sized d.bytes.now };
 }

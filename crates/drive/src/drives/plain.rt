@@ -4,12 +4,11 @@ ghost use Rattle.drive.specs.Block.{put};
 ghost use Rattle.drive.specs.Medium.{Written, Flushed};
 ghost use Rattle.drive.specs.Plain.{plain_visible, plain_durable, plain_medium};
 ghost use Rattle.drive.specs.Refusal.{answer, tested};
-ghost use Rattle.drive.specs.Size.{plain_sized};
+ghost use Rattle.drive.specs.Size.{bare_sized};
 ghost use Rattle.std.proofs.Common.{rules};
 
-use crate::blocks::{copy_in, copy_out, test};
+use crate::blocks::{blocks, copy_in, test};
 use crate::drives::{Drive, ReadDrive};
-use crate::limits::BLOCK_SIZE;
 use crate::refusal::DriveRefusal;
 
 // Puts each write straight onto its memory.
@@ -36,17 +35,17 @@ impl Plain {
 impl ReadDrive for Plain {
     ghost visible = { plain_visible };
 
-    ghost sized = { plain_sized };
-
     fn count(&self) -> usize {
-        self.memory.len() / BLOCK_SIZE
+        blocks(self.memory.as_slice()).len()
     }
 
     fn read(&self, at: usize, buffer: &mut [u8]) -> Result<(), DriveRefusal> {
-        test(self.count(), at, buffer.len())?;
-        copy_out(self.memory.as_slice(), at, buffer);
+        test(self.count(), at, buffer)?;
+        buffer.copy_from_slice(&blocks(self.memory.as_slice())[at]);
         Ok(())
     }
+
+    ghost sized = { λ d. bare_sized d.memory.items };
 }
 
 impl Drive for Plain {
@@ -60,7 +59,7 @@ impl Drive for Plain {
         ensures writes { MatchResult result (λ _. Written (plain_medium self.old) at bytes.now (plain_medium self.new)) (λ _. self.new ≡ self.old) }
         ensures memory { self.new.memory.items ≡ if_answered (tested (plain_visible self.old).count at (length bytes.now)) (put self.old.memory.items at bytes.now) self.old.memory.items }
     {
-        test(self.count(), at, bytes.len())?;
+        let bytes = test(self.count(), at, bytes)?;
         copy_in(self.memory.as_mut_slice(), at, bytes);
         Ok(())
     }

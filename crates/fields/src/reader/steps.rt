@@ -76,36 +76,23 @@ fn field_at<'a>(bytes: &'a [u8], at: usize) -> Option<(Field<'a>, usize)>
     ensures { FieldAt bytes.now at result }
 {
     let rest = &bytes[at..];
-    let end = find(rest, SOH);
-    if end == rest.len() {
-        return None;
-    }
-    let text = &rest[0..end];
-    let equals = find(text, b'=');
-    if equals == end {
-        return None;
-    }
-    let tag = numeral(&text[0..equals], 1, 99)?;
+    let end = find(rest, SOH)?;
+    let text = &rest[..end];
+    let equals = find(text, b'=')?;
+    let tag = numeral(&text[..equals], 1, 99)?;
     let field = Field::new(tag, &text[equals + 1..])?;
     Some((field, at + end + 1))
 }
 
-/// The place of the first `x`, or the length where there is none.
-fn find(bytes: &[u8], x: u8) -> usize
+/// The place of the first `x`.
+fn find(bytes: &[u8], x: u8) -> Option<usize>
     ensures { Found x bytes.now result }
 {
-    for (i, b) in bytes.iter().enumerate() {
-        if *b == x {
-            return i;
-        }
-    }
-    bytes.len()
+    bytes.iter().position(|b| *b == x)
 }
 
 /// Every number's field has one spelling, whatever its tag and its range.
-pub fn every_spelling_is_read_back() -> u8
+pub fn every_spelling_is_read_back()
     ensures back { WrittenIsRead }
     ensures only { ReadIsWritten }
-{
-    0
-}
+{}

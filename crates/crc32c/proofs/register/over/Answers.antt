@@ -2,9 +2,6 @@ use Rattle.std.proofs.Common.{refl, arith}
 use Rattle.crc32c.proofs.Chunk.{chunk_more, chunk_all}
 use Rattle.crc32c.proofs.register.over.Goals as goal
 
-pub loop-w-init : goal.loop-w-init
-loop-w-init c = refl
-
 pub loop-w-preserved : goal.loop-w-preserved
 loop-w-preserved c =
     chunk_more 16 c.args.bytes.now c.as_chunks.result.0.now c.loop-w.w-index c.loop-w.c c.over_sixteen-c.result _

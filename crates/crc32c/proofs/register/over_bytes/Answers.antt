@@ -5,9 +5,6 @@ use Rattle.crc32c.specs.Crc.{register, steps}
 use Rattle.crc32c.proofs.Step.{byte_step}
 use Rattle.crc32c.proofs.register.over_bytes.Goals as goal
 
-pub loop-b-init : goal.loop-b-init
-loop-b-init c = refl
-
 pub loop-b-preserved : goal.loop-b-preserved
 unfolding register
 loop-b-preserved c =

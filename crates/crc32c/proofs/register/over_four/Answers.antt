@@ -5,16 +5,6 @@ use Rattle.crc32c.proofs.Step.{steps_add}
 use Rattle.crc32c.proofs.Word.{word, word_value, value_four, by_word, by_looks, looks_four}
 use Rattle.crc32c.proofs.register.over_four.Goals as goal
 
-pub overflow_cast-x-4 : goal.overflow_cast-x-4
-overflow_cast-x-4 c =
-    let lt : bit_xor c.from_le_bytes.result c.args.c < 2 ^ 32 = xor_lt 32 c.from_le_bytes.result c.args.c (omega arith) (omega arith) in
-    omega arith
-
-pub entry-requires-4 : goal.entry-requires-4
-entry-requires-4 c =
-    let lt : bit_xor c.from_le_bytes.result c.args.c < 2 ^ 32 = xor_lt 32 c.from_le_bytes.result c.args.c (omega arith) (omega arith) in
-    record { within = omega arith; byte = omega arith }
-
 -- four look-ups, and the register over four bytes
 looked : (z x a b d e : ℕ) → x < 2 ^ 32 → a ≡ steps (8 * (z + 3 + 1)) (x % 256) → b ≡ steps (8 * (z + 2 + 1)) (x / 2 ^ 8 % 256) → d ≡ steps (8 * (z + 1 + 1)) (x / 2 ^ 16 % 256) → e ≡ steps (8 * (z + 1)) (x / 2 ^ 24) → bit_xor (bit_xor a b) (bit_xor d e) ≡ steps (8 * (z + 4)) x
 looked z x a b d e lt ha hb hd he =

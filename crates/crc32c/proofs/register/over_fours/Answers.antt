@@ -3,9 +3,6 @@ use Rattle.crc32c.specs.Crc.{steps}
 use Rattle.crc32c.proofs.Chunk.{chunk_more, chunk_all}
 use Rattle.crc32c.proofs.register.over_fours.Goals as goal
 
-pub loop-w-init : goal.loop-w-init
-loop-w-init c = refl
-
 pub loop-w-preserved : goal.loop-w-preserved
 unfolding steps
 loop-w-preserved c =

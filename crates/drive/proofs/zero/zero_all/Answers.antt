@@ -4,12 +4,12 @@ use Rattle.drive.specs.Act.{write, flush, Acted, Does}
 use Rattle.drive.specs.Medium.{medium, Written}
 use Rattle.drive.specs.Zero.{zeros, zeroing, zeroing_all}
 use Rattle.drive.proofs.Tested.{passed_case}
-use Rattle.drive.proofs.Rows.{does_none, does_more}
+use Rattle.drive.proofs.Rows.{does_more}
 use Rattle.drive.proofs.zero.zero_all.Goals as goal
 
 pub loop-b-init : goal.loop-b-init
-unfolding zeroing
-loop-b-init g c = (refl, λ k h. absurd (omega arith), does_none _ _)
+unfolding zeroing Does
+loop-b-init g c = (refl, λ k h. absurd (omega arith), refl)
 
 pub loop-b-preserved : goal.loop-b-preserved
 unfolding zeroing zeros Acted

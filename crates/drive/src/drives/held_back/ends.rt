@@ -1,32 +1,30 @@
-ghost use Rattle.std.specs.Prelude.{◌≡◌, ℕ};
+ghost use Rattle.std.specs.Prelude.{◌≡◌, ℕ, [], length};
 ghost use Rattle.drive.specs.HeldBack.{held_visible, held_durable, held_medium, all_put_out};
 ghost use Rattle.drive.specs.Medium.{CutAt};
 ghost use Rattle.drive.specs.Plain.{bare_visible, bare};
 
 use crate::drives::held_back::HeldBack;
-use crate::limits::{HELD_BYTES, MOST_HELD};
+use arrayvec::ArrayVec;
 
 impl HeldBack {
     // Nothing is held at first. This is all the room that the drive ever takes.
     pub fn new(memory: Vec<u8>) -> Self
         ensures memory { result.memory ≡ memory }
-        ensures none { result.held ≡ 0 }
+        ensures none { result.held.items ≡ [] }
         ensures shows { held_visible result ≡ bare_visible memory.items }
         ensures settles { (b : ℕ) → (held_durable result).settled b }
     {
         HeldBack {
             memory,
-            store: [0; HELD_BYTES],
-            places: [0; MOST_HELD],
-            held: 0,
+            held: ArrayVec::new(),
         }
     }
 
     // How many blocks are held.
     pub fn held(&self) -> usize
-        ensures value { result ≡ self.now.held }
+        ensures value { result ≡ length self.now.held.items }
     {
-        self.held
+        self.held.len()
     }
 
     // Puts every held block out, and gives the memory back.
@@ -43,12 +41,7 @@ impl HeldBack {
         ensures value { result ≡ self.memory }
         ensures cut { CutAt (λ _. ⊥) (held_medium self) (bare result.items) }
     {
-        let HeldBack {
-            memory,
-            store: _,
-            places: _,
-            held: _,
-        } = self;
+        let HeldBack { memory, held: _ } = self;
         memory
     }
 }

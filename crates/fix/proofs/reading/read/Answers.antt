@@ -15,7 +15,7 @@ returns-in_err-form c =
     let w = c.in_err-form.field-0.0 in
     let p = err_from_is_err_and c.from_residual.result c.from_residual.ensures.1 in
     let new = c.new-reader.ensures in
-    let f = at_start (λ l a. (form (drop a l) ≡ wrong (drop w.place l)) × (w.place ≤ length l)) _ bs _ new.source new.start c.in_err-form.ensures.reads in
+    let f = at_start (λ l a. (form (drop a l) ≡ wrong (drop w.place l)) × (w.place ≤ length l)) _ bs _ new.source new.start c.in_err-form.ensures.walked.reads in
     record { answer = rw p.1 (ap refusal p.2 ∙ sym (parse_wrong bs _ f.1 f.0)) }
 
 formed : (c : In_ok-form) → form c.args.bytes.now ≡ right (form_of c.args.bytes.now c.in_ok-form.form) (drop c.read_form.new.reader.at c.args.bytes.now)
@@ -25,7 +25,7 @@ formed c =
     let at = c.read_form.new.reader.at in
     let found = c.in_ok-form.form in
     at_start (λ l a. form (drop a l) ≡ right (form_of l found) (drop at l)) _ bs _ new.source new.start
-    (c.in_ok-form.ensures.reads ∙ ap (λ l. right (form_of c.new-reader.result.bytes.now found) (drop at l)) c.read_form.ensures.source)
+    (c.in_ok-form.ensures.walked.reads ∙ ap (λ l. right (form_of c.new-reader.result.bytes.now found) (drop at l)) c.in_ok-form.ensures.walked.source)
 
 pub returns-then-place-bytes : goal.returns-then-place-bytes
 returns-then-place-bytes c =

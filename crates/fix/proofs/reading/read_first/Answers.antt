@@ -9,8 +9,7 @@ use Rattle.fix.specs.Message.{form, checked, with_length, parse_first, render}
 use Rattle.fix.specs.Refusal.{refusal}
 use Rattle.fix.specs.Step.{form_of}
 use Rattle.fix.proofs.Checks.{at_start, first_wrong, first_formed}
-use Rattle.fix.proofs.Lengths.{body_length, render_length}
-use Rattle.fix.proofs.Whole.{first_read_is_written}
+use Rattle.fix.proofs.Whole.{first_takes}
 use Rattle.fix.proofs.reading.read_first.Goals as goal
 use Rattle.fix.proofs.reading.read_first.Goals.{In_ok-form}
 
@@ -20,7 +19,7 @@ returns-in_err-form c =
     let w = c.in_err-form.field-0.0 in
     let p = err_from_is_err_and c.from_residual.result c.from_residual.ensures.1 in
     let new = c.new-reader.ensures in
-    let f = at_start (λ l a. (form (drop a l) ≡ wrong (drop w.place l)) × (w.place ≤ length l)) _ bs _ new.source new.start c.in_err-form.ensures.reads in
+    let f = at_start (λ l a. (form (drop a l) ≡ wrong (drop w.place l)) × (w.place ≤ length l)) _ bs _ new.source new.start c.in_err-form.ensures.walked.reads in
     record {
       answer = rw p.1 (ap refusal p.2 ∙ sym (first_wrong bs _ f.1 f.0));
       inside = rw p.1 (rw p.2 f.1);
@@ -33,8 +32,8 @@ formed c =
     let at = c.read_form.new.reader.at in
     let found = c.in_ok-form.form in
     let is = at_start (λ l a. form (drop a l) ≡ right (form_of l found) (drop at l)) _ bs _ new.source new.start
-    (c.in_ok-form.ensures.reads ∙ ap (λ l. right (form_of c.new-reader.result.bytes.now found) (drop at l)) c.read_form.ensures.source) in
-    let same = ap length (c.read_form.ensures.source ∙ new.source) in
+    (c.in_ok-form.ensures.walked.reads ∙ ap (λ l. right (form_of c.new-reader.result.bytes.now found) (drop at l)) c.in_ok-form.ensures.walked.source) in
+    let same = ap length (c.in_ok-form.ensures.walked.source ∙ new.source) in
     let inside : at ≤ length bs = omega (arith, same, c.read_form.new.reader.inside) in
     first_formed bs _ at is inside
 
@@ -61,8 +60,4 @@ returns c =
     let command = figures c.in_ok-command.command in
     let is : answered (command, c.place.result) ≡ parse_first bs =
     ap (λ n. answered (command, n)) c.place.ensures.value ∙ ap (with_length at) c.in_ok-command.ensures.answer ∙ sym (formed (goal.at.returns c).In_ok-form) in
-    let taken = first_read_is_written bs command c.place.result (sym is) in
-    let size = body_length command taken.3 in
-    let long = render_length command taken.3 in
-    let whole = ap length taken.1 ∙ length-append (render command) taken.0 in
-    record { answer = is; inside = (omega (arith, taken.2), omega (arith, taken.2)) }
+    record { answer = is; inside = first_takes bs command c.place.result (sym is) }

@@ -1,15 +1,13 @@
-use Rattle.std.proofs.Common.{◌+◌, ◌%◌, get_or, take, sum, sym, ap, ◌∙◌}
+use Rattle.std.proofs.Common.{◌≡◌, ℕ, ◌+◌, ◌%◌, List, [], ◌∷◌, fold, refl, ap, ◌∙◌, rules}
 use native.Mathlib.Nat.{mod-add-mod}
-use Rattle.std.proofs.lemmas.List.Sums.{sum_by_more}
-use Rattle.std.proofs.lemmas.List.{take_all}
+use Rattle.std.proofs.lemmas.Iterator.{YieldsList-from_slice}
+use Rattle.std.proofs.lemmas.Iterator.Consumers.{fold_from_yields_List}
 use Rattle.fix.proofs.reading.sum_of.Goals as goal
 
-pub loop-b-preserved : goal.loop-b-preserved
-loop-b-preserved c =
-    let bs = c.args.bytes.now in
-    let i = c.loop-b.b-index in
-    ap (λ n. (n + get_or bs i 0) % 256) c.loop-b.invariant ∙ mod-add-mod (sum (take i bs)) 256 (get_or bs i 0)
-    ∙ ap (λ n. n % 256) (sym (sum_by_more (λ x. x) bs i 0 c.loop-b-test.true))
+-- a sum that wraps at each step is the sum that wraps once
+wrapped : (bs : List ℕ) (n : ℕ) → fold (λ a b. (a + b) % 256) (n % 256) bs ≡ fold ◌+◌ n bs % 256
+wrapped [] n = refl
+wrapped (b ∷ bs) n = ap (λ m. fold (λ a b. (a + b) % 256) m bs) (mod-add-mod n 256 b) ∙ wrapped bs (n + b)
 
 pub returns : goal.returns
-returns c = c.loop-b.invariant ∙ ap (λ l. sum l % 256) (take_all _ _ c.loop-b-test.false)
+returns c = fold_from_yields_List _ (λ a b. (a + b) % 256) 0 _ c.fold.ensures.ran (YieldsList-from_slice c.args.bytes.now cc) (λ a x b q k. search rules) ∙ wrapped c.args.bytes.now 0

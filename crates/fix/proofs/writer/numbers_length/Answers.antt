@@ -1,19 +1,13 @@
-use Rattle.std.proofs.Common.{length, arith}
-use Rattle.std.proofs.lemmas.List.{at_drop_all}
+use Rattle.std.proofs.Common.{length, decimal, refl, sym, ◌∙◌, rules, length-append}
+use Rattle.std.proofs.lemmas.Iterator.{YieldsList-from_slice, YieldsList-from_map}
+use Rattle.std.proofs.lemmas.Iterator.Consumers.{sum_by_from_yields_List}
+use Rattle.std.proofs.lemmas.List.Recursion.{is_sum_by}
 use Rattle.fix.specs.Writing.{numbers}
-use Rattle.fix.proofs.Writes.{next_length}
+use Rattle.fix.proofs.Writes.{text_of}
 use Rattle.fix.proofs.writer.numbers_length.Goals as goal
-
-pub loop-field-preserved : goal.loop-field-preserved
-loop-field-preserved c =
-    let n = next_length c.args.fields.now c.loop-field.field-index c.loop-field-test.true in
-    let so_far = c.loop-field.invariant.0 in
-    let few = c.loop-field.invariant.1 in
-    let tag = c.digits.ensures.value in
-    let number = c.digits-in-loop-field.ensures.value in
-    (omega arith, omega (arith, c.digits.ensures.few, c.digits-in-loop-field.ensures.few))
 
 pub returns : goal.returns
 returns c =
-    let none = at_drop_all (λ l. length (numbers l)) c.args.fields.now _ c.loop-field-test.false in
-    record { value = omega (arith, c.loop-field.invariant.0); few = omega (arith, c.loop-field.invariant.1, c.loop-field.auto.field-index-end) }
+    let fs = c.args.fields.now in
+    sum_by_from_yields_List (λ f. length (text_of f)) fs c.map.result _ c.sum.ensures.ran (YieldsList-from_map _ _ (YieldsList-from_slice fs cc) c.map.ensures.closure (λ x r q k. search rules))
+    ∙ sym (is_sum_by (λ l. length (numbers l)) (λ f. length (text_of f)) refl (λ f l. length-append (text_of f) (numbers l)) fs)

@@ -9,9 +9,6 @@ use Rattle.sealed.specs.Zero.{all_zero}
 use Rattle.sealed.proofs.Zeros.{left_none, left_word, number_eight, decided, zeros_number, number_zeros, zeros_decides, all_zero_each}
 use Rattle.sealed.proofs.zero.is_zero.Goals as goal
 
-pub loop-w-init : goal.loop-w-init
-loop-w-init c = left_none c.args.bytes.now
-
 pub loop-w-preserved : goal.loop-w-preserved
 loop-w-preserved c =
     let xs : List ℕ = c.args.bytes.now in

@@ -3,9 +3,6 @@ use Rattle.allocation.specs.ProRata.{topped_up}
 use Rattle.allocation.specs.TopUp.{within_drop, topped_more, topped_early, topped_end}
 use Rattle.allocation.proofs.policies.pro_rata.top_up.Goals as goal
 
-pub overflow_sub-order : goal.overflow_sub-order
-overflow_sub-order c = (within_drop c.loop-i.fills c.args.lots.now c.loop-i.i (omega arith) (omega arith) c.loop-i.invariant.0).0
-
 pub loop-i-preserved : goal.loop-i-preserved
 loop-i-preserved c = topped_more c.loop-i.left c.min-fill.result c.loop-i.i c.loop-i.fills c.args.lots.now (topped_up c.args.more c.args.fills.now c.args.lots.now) (omega arith) (omega arith) c.min-fill.ensures c.loop-i.invariant
 

@@ -1,6 +1,0 @@
-use Rattle.std.proofs.Common.{arith}
-use Rattle.drive.proofs.Tested.{passed}
-use Rattle.drive.proofs.drives.held_back.calls.HeldBackReadDrive.read.Goals as goal
-
-pub fetch-requires : goal.fetch-requires
-fetch-requires c = let p = passed _ _ _ _ c.in_ok-test.ensures.value in record { below = omega arith; size = p.1 }
