@@ -1,44 +1,29 @@
 -- A feed's next message, by what its first bytes say.
-use Rattle.std.proofs.Common.{◌≡◌, ℕ, ◌+◌, ◌<◌, true, false, cond, eqb, List, [], length, Some, None, Option, sym, refl, ap, ◌∙◌, ⊎_elim, add-zero, arith}
+use Rattle.std.proofs.Common.{◌≡◌, ℕ, ◌+◌, ◌<◌, true, cond, eqb, List, [], length, Some, None, Option, sym, refl, ap, ◌∙◌, ⊎_elim, add-zero, arith}
 use Rattle.answers.specs.Answer.{Answer, answered, refused}
 use Rattle.fix.specs.Command.{Command}
 use Rattle.fix.specs.Message.{parse_first}
-use Rattle.fix.specs.Refusal
-use Rattle.fix.specs.Refusal.{place_of}
-use Rattle.fix.specs.declared.refusal.MessageRefusal.{MessageRefusal}
-use Rattle.fix.specs.declared.refusal.MessageRefusal.TheVariants.{WrongField, WrongCount, WrongSum}
 use Rattle.fix.proofs.Whole.{first_of_nothing, first_takes}
 use Rattle.std.proofs.lemmas.Bool.{cases_Bool, eqb-true, eqb-false, cond-true, cond-false}
 use Rattle.std.proofs.lemmas.List.{nil_from_length}
-use Rattle.console.specs.Feed.{refusal, located, bytes_taken, messages_taken}
+use Rattle.console.specs.Feed.{located, bytes_taken, messages_taken}
 
 abbrev Next : ℕ → ℕ → List ℕ → Option (Answer Command)
 Next at count l = cond (eqb (length l) 0) None (Some (located at count (parse_first l)))
 
 -- m are the bytes as the code cut them, and l those that are left
-module _ (at count : ℕ) (l m : List ℕ) (same : m ≡ l) where
-  module _ (none : eqb (length m) 0 ≡ true) where
-    nothing : l ≡ []
-    nothing = sym same ∙ nil_from_length m (eqb-true _ _ none)
+module _ (at count : ℕ) (l m : List ℕ) (same : m ≡ l) (none : eqb (length m) 0 ≡ true) where
+  nothing : l ≡ []
+  nothing = sym same ∙ nil_from_length m (eqb-true _ _ none)
 
-    pub none_answer : None ≡ Next at count l
-    none_answer = sym (cond-true _ _ _ (ap (λ x. eqb (length x) 0) (sym same) ∙ none))
+  pub none_answer : None ≡ Next at count l
+  none_answer = sym (cond-true _ _ _ (ap (λ x. eqb (length x) 0) (sym same) ∙ none))
 
-    pub none_place : at ≡ at + bytes_taken (parse_first l)
-    none_place = sym (ap (λ x. at + bytes_taken (parse_first x)) nothing ∙ ap (λ a. at + bytes_taken a) first_of_nothing ∙ add-zero at)
+  pub none_place : at ≡ at + bytes_taken (parse_first l)
+  none_place = sym (ap (λ x. at + bytes_taken (parse_first x)) nothing ∙ ap (λ a. at + bytes_taken a) first_of_nothing ∙ add-zero at)
 
-    pub none_taken : count ≡ count + messages_taken (parse_first l)
-    none_taken = sym (ap (λ x. count + messages_taken (parse_first x)) nothing ∙ ap (λ a. count + messages_taken a) first_of_nothing ∙ add-zero count)
-
-  module _ (some : eqb (length m) 0 ≡ false) (a : Answer (Command × ℕ)) (says : a ≡ parse_first m) where
-    pub some_answer : Some (located at count a) ≡ Next at count l
-    some_answer = ap (λ x. Some (located at count x)) (says ∙ ap parse_first same) ∙ sym (cond-false _ _ _ (ap (λ x. eqb (length x) 0) (sym same) ∙ some))
-
-    pub some_place : at + bytes_taken a ≡ at + bytes_taken (parse_first l)
-    some_place = ap (λ x. at + bytes_taken x) (says ∙ ap parse_first same)
-
-    pub some_taken : count + messages_taken a ≡ count + messages_taken (parse_first l)
-    some_taken = ap (λ x. count + messages_taken x) (says ∙ ap parse_first same)
+  pub none_taken : count ≡ count + messages_taken (parse_first l)
+  none_taken = sym (ap (λ x. count + messages_taken (parse_first x)) nothing ∙ ap (λ a. count + messages_taken a) first_of_nothing ∙ add-zero count)
 
 -- a command that was taken took a byte
 takes : (l : List ℕ) (at count : ℕ) (c : Command) (a : Answer (Command × ℕ)) → parse_first l ≡ a → answered c ≡ located at count a → 0 < bytes_taken a
@@ -51,19 +36,3 @@ command_takes at count l c e =
     (λ none. let z : Some (answered c) ≡ None = e ∙ cond-true _ _ _ none in let o : ◌≡◌ {A = ℕ} 0 1 = cc in absurd (omega arith))
     (λ some. let z : Some (answered c) ≡ Some (located at count (parse_first l)) = e ∙ cond-false _ _ _ some in (omega (arith, eqb-false _ _ some), takes l at count c (parse_first l) refl cc))
     (cases_Bool (eqb (length l) 0))
-
--- a refusal, located
-pub located_refusal : (at count : ℕ) (e : MessageRefusal) → refusal e (count + 1) (at + place_of e) ≡ located at count (Refusal.refusal e)
-located_refusal at count (WrongField place) = refl
-located_refusal at count WrongCount = refl
-located_refusal at count WrongSum = refl
-
-pub no_bytes : (e : MessageRefusal) → bytes_taken (Refusal.refusal e) ≡ 0
-no_bytes (WrongField place) = refl
-no_bytes WrongCount = refl
-no_bytes WrongSum = refl
-
-pub no_message : (e : MessageRefusal) → messages_taken (Refusal.refusal e) ≡ 0
-no_message (WrongField place) = refl
-no_message WrongCount = refl
-no_message WrongSum = refl

@@ -1,5 +1,5 @@
 -- The messages of a feed, one after the other.
-use Rattle.std.specs.Prelude.{◌≡◌, ℕ, ◌+◌, true, false, Bool, cond, length, Some, None, Ok, Err, Option, Result}
+use Rattle.std.specs.Prelude.{◌≡◌, ◌+◌, true, false, Bool, cond, length, Some, None, Ok, Err, Option, Result}
 use Rattle.std.specs.Iterator.{Count, at_most}
 use Rattle.fix.specs.Message.{parse_first}
 use Rattle.fix.specs.declared.command.Command as code

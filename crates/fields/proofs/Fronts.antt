@@ -1,8 +1,7 @@
 -- The field at the front, from what the reader's searches found.
-use Rattle.std.proofs.Common.{◌≡◌, ℕ, suc, ◌+◌, ◌-◌, ◌<◌, true, false, List, length, take, drop, Some, None, Option, sym, ap, ◌∙◌, add-one, arith}
-use native.Mathlib.Nat.{sub-zero}
+use Rattle.std.proofs.Common.{◌≡◌, ℕ, suc, ◌+◌, ◌-◌, true, false, List, length, take, drop, Some, None, Option, sym, ap, ◌∙◌, add-one, arith}
 use Rattle.std.proofs.lemmas.Bool.{cond-true, cond-false}
-use Rattle.std.proofs.lemmas.List.{take_rest, drop-drop, length-take-le}
+use Rattle.std.proofs.lemmas.List.{take_rest, drop-drop}
 use Rattle.fields.specs.Field.{Front, bind, cut, of_tag, front}
 use Rattle.fields.specs.Found.{Found}
 use Rattle.fields.specs.Kind.{known}

@@ -1,22 +1,21 @@
 -- The parts of a message that the writer writes one after the other.
-use Rattle.std.proofs.Common.{◌≡◌, ℕ, ◌+◌, ◌-◌, ◌%◌, ◌<◌, ◌≤◌, List, [], ◌∷◌, ◌++◌, length, take, drop, codes, decimal, sum, sym, ap, ◌∙◌, subst, append_assoc, append-nil, zero-add, arith, length-append}
-use Rattle.std.proofs.lemmas.Bool.{le-leb, lt-leb, cond-true, cond-false}
+use Rattle.std.proofs.Common.{◌≡◌, ℕ, ◌+◌, ◌%◌, ◌<◌, ◌≤◌, List, [], ◌∷◌, ◌++◌, length, take, drop, codes, decimal, sum, sym, ap, ◌∙◌, subst, append_assoc, zero-add, arith}
+use Rattle.std.proofs.lemmas.Bool.{lt-leb, cond-false}
 use Rattle.std.proofs.lemmas.List.{take_at}
-use Rattle.answers.specs.Answer.{answered, refused}
+use Rattle.answers.specs.Answer.{refused}
 use Rattle.fields.specs.Field.{written}
-use Rattle.fields.specs.Row.{shown, shown_row}
+use Rattle.fields.specs.Row.{shown_row}
 use Rattle.fix.specs.declared.writer.Numbered.{Numbered}
 use Rattle.fix.specs.declared.command.Command as code
 use Rattle.fix.specs.declared.command.Command.TheVariants as cases
 use Rattle.fix.specs.declared.command.NewOrder as code_order
 use Rattle.fix.specs.declared.command.Cancel as code_cancel
-use Rattle.fix.specs.Command.{Command, Valid, figures, order_figures, cancel_figures}
-use Rattle.fix.specs.Layout.{check_sum, three_digits, new_order_fields, cancel_fields}
+use Rattle.fix.specs.Command.{Command, figures, order_figures, cancel_figures}
+use Rattle.fix.specs.Layout.{three_digits, new_order_fields, cancel_fields}
 use Rattle.fix.specs.Message.{values_of, new_order_values, cancel_values, body_by, front_by, render}
 use Rattle.fix.specs.Refusal.{room}
 use Rattle.fix.specs.declared.writer.Writer.{Writer}
 use Rattle.fix.specs.Writing.{over, over_front, Fits, Wrote, numbers}
-use Rattle.fix.proofs.Lengths.{body_length, render_length, version_length, count_length, sum_length}
 use Rattle.fix.proofs.Writes.{fits_after, fits_front, wrote_more}
 
 -- a body is its kind and the fields after it
@@ -90,10 +89,6 @@ module _ (c : Command) where
           unfolding render
           whole p4 = at_front (front ++ trailer) start (wrote_more front trailer wrote_front all_room p4)
 
--- the answer, and the buffer
-module _ (n : ℕ) (b : List ℕ) where
-  pub no_room : length b < n → room n (length b) ≡ refused 91 (n ∷ [])
-  no_room h = cond-false _ _ _ (lt-leb n (length b) h)
-
-  pub some_room : n ≤ length b → room n (length b) ≡ answered n
-  some_room h = cond-true _ _ _ (le-leb n (length b) h)
+-- the answer where the buffer is too short
+pub no_room : (n : ℕ) (b : List ℕ) → length b < n → room n (length b) ≡ refused 91 (n ∷ [])
+no_room n b h = cond-false _ _ _ (lt-leb n (length b) h)

@@ -1,9 +1,7 @@
 -- The count, the sum and the answer, by places.
-use Rattle.std.proofs.Common.{◌≡◌, ℕ, ◌-◌, ◌%◌, ◌<◌, ◌≤◌, cond, eqb, List, [], ◌∷◌, length, take, drop, sum, sym, refl, ap, ◌∙◌, subst, arith, length-drop}
-use native.Mathlib.Nat.{sub-zero}
-use Rattle.answers.specs.Answer.{answered, refused}
+use Rattle.std.proofs.Common.{◌≡◌, ℕ, ◌-◌, ◌<◌, ◌≤◌, cond, eqb, List, [], ◌∷◌, length, drop, refl, ap, ◌∙◌, subst, arith, length-drop}
+use Rattle.answers.specs.Answer.{refused}
 use Rattle.fields.specs.Row.{wrong, right}
-use Rattle.std.proofs.lemmas.Bool.{cond-true, cond-false, eq-eqb, ne_eqb}
 use Rattle.std.proofs.lemmas.List.{drop_all}
 use Rattle.fix.specs.Command.{Command, new, cancel}
 use Rattle.fix.specs.declared.command.Side.{Side}
@@ -19,28 +17,8 @@ pub command_back : (c : Command) → command_of (values_of c) ≡ c
 command_back (new o) = ap (λ s. new (record { member = o.member; number = o.number; order = o.order; side = s; lots = o.lots; price = o.price })) (side_back o.side)
 command_back (cancel o) = refl
 
-count_is : (bs : List ℕ) (a e : ℕ) → a ≤ e → e ≤ length bs → length (drop a bs) - length (drop e bs) ≡ e - a
-count_is bs a e h k = simp length-drop (omega arith)
-
 place_is : (bs : List ℕ) (e : ℕ) → e ≤ length bs → length bs - length (drop e bs) ≡ e
 place_is bs e k = simp length-drop (omega arith)
-
-module _ (bs : List ℕ) (n : ℕ) (vs : List ℕ) (s a e : ℕ) (h : a ≤ e) (k : e ≤ length bs) where
-  abbrev Found : Form
-  Found = record { count = n; values = vs; sum = s; body = drop a bs; trailer = drop e bs }
-
-  pub wrong_count : (n ≡ e - a → ⊥) → checked bs Found ≡ refused 12 []
-  wrong_count ne = cond-false _ _ _ (ne_eqb _ _ (λ q. ne (q ∙ count_is bs a e h k)))
-
-  pub wrong_sum : n ≡ e - a → (s ≡ sum (take (e - 0) bs) % 256 → ⊥) → checked bs Found ≡ refused 13 []
-  wrong_sum q ne =
-      cond-true _ _ _ (eq-eqb _ _ (q ∙ sym (count_is bs a e h k)))
-      ∙ cond-false _ _ _ (ne_eqb _ _ (λ z. ne (z ∙ ap (λ m. sum (take m bs) % 256) (place_is bs e k ∙ sym (sub-zero e)))))
-
-  pub both_right : n ≡ e - a → s ≡ sum (take (e - 0) bs) % 256 → checked bs Found ≡ answered (command_of vs)
-  both_right q z =
-      cond-true _ _ _ (eq-eqb _ _ (q ∙ sym (count_is bs a e h k)))
-      ∙ cond-true _ _ _ (eq-eqb _ _ (z ∙ ap (λ m. sum (take m bs) % 256) (sub-zero e ∙ sym (place_is bs e k))))
 
 -- a reader that starts at 0 over bs
 pub at_start : (F : List ℕ → ℕ → Type 0) (rb bs : List ℕ) (a : ℕ) → rb ≡ bs → a ≡ 0 → F rb a → F bs 0

@@ -1,12 +1,11 @@
 -- One write after another.
-use Rattle.std.proofs.Common.{◌≡◌, ℕ, ◌+◌, ◌-◌, ◌/◌, ◌%◌, ◌^◌, ◌<◌, ◌≤◌, List, [], ◌∷◌, ◌++◌, length, get_or, take, drop, set, decimal, sym, refl, ap, ◌∙◌, subst, append_assoc, add-zero, add-one, arith, length-append, length-drop}
+use Rattle.std.proofs.Common.{◌≡◌, ℕ, ◌+◌, ◌/◌, ◌%◌, ◌^◌, ◌<◌, ◌≤◌, List, [], ◌∷◌, ◌++◌, length, get_or, take, drop, set, decimal, sym, refl, ap, ◌∙◌, append_assoc, add-zero, add-one, arith, length-append, length-drop}
 use Rattle.std.proofs.lemmas.List.{length-take-le, take-append-drop, take_at, drop_at, drop-drop, set_split, at_drop_more}
-use Rattle.std.proofs.lemmas.Fmt.{decimal_digit, decimal_step}
+use Rattle.std.proofs.lemmas.Fmt.{decimal_step}
 use Rattle.fields.specs.Field.{written}
 use Rattle.fix.specs.declared.writer.Numbered.{Numbered}
 use Rattle.fix.specs.declared.writer.Writer.{Writer}
 use Rattle.fix.specs.Writing.{over, Fits, Wrote, numbers}
-use Rattle.fix.proofs.Lengths.{more_digits, written_length}
 
 module _ (b : List ℕ) (a : ℕ) where
   abbrev front : List ℕ → List ℕ

@@ -1,6 +1,6 @@
-use Rattle.std.proofs.Common.{◌<◌, ◌++◌, map, length, get_or, set, ap, ◌∙◌, append-nil, arith}
+use Rattle.std.proofs.Common.{◌<◌, length, get_or, set, ap, ◌∙◌, arith}
 use Rattle.std.proofs.lemmas.List.Edits.{map_over_more}
-use Rattle.std.proofs.lemmas.List.{get_or_default, take_all, drop_all}
+use Rattle.std.proofs.lemmas.List.{get_or_default}
 use Rattle.console.specs.Shown.{unshown}
 use Rattle.console.proofs.shown.unshow.Goals as goal
 
@@ -11,9 +11,3 @@ loop-b-preserved c =
     let i = c.loop-b.b-index in
     let here : i < length ys = omega arith in
     ap (λ x. set ys i x) c.meant.ensures.value ∙ map_over_more unshown xs ys i (get_or ys i 0) (omega arith) c.loop-b.invariant (get_or_default ys i 0 (get_or ys i 0) here)
-
-pub returns : goal.returns
-returns c =
-    let xs = c.args.bytes.now in
-    let past = c.loop-b-test.false in
-    record { after = c.loop-b.invariant ∙ (λ i. map unshown (take_all _ xs past i) ++ drop_all _ xs past i) ∙ append-nil (map unshown xs) }

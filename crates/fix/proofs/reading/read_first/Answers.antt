@@ -1,11 +1,11 @@
-use Rattle.std.proofs.Common.{◌≡◌, ℕ, ◌≤◌, length, drop, sym, refl, ap, ◌∙◌, arith, length-append}
+use Rattle.std.proofs.Common.{◌≡◌, ℕ, ◌≤◌, length, drop, sym, refl, ap, ◌∙◌, arith}
 use Rattle.std.proofs.lemmas.Result.{err_from_is_err_and}
 use Rattle.answers.specs.Answer.{answered}
 use Rattle.fields.specs.Row.{wrong, right}
 use Rattle.fix.specs.declared.refusal.MessageRefusal.{MessageRefusal}
 use Rattle.fix.specs.declared.refusal.MessageRefusal.TheVariants.{WrongField, WrongCount, WrongSum}
 use Rattle.fix.specs.Command.{figures}
-use Rattle.fix.specs.Message.{form, checked, with_length, parse_first, render}
+use Rattle.fix.specs.Message.{form, checked, with_length, parse_first}
 use Rattle.fix.specs.Refusal.{refusal}
 use Rattle.fix.specs.Step.{form_of}
 use Rattle.fix.proofs.Checks.{at_start, first_wrong, first_formed}

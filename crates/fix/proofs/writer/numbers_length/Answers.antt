@@ -1,4 +1,4 @@
-use Rattle.std.proofs.Common.{length, decimal, refl, sym, ◌∙◌, rules, length-append}
+use Rattle.std.proofs.Common.{length, refl, sym, ◌∙◌, rules, length-append}
 use Rattle.std.proofs.lemmas.Iterator.{YieldsList-from_slice, YieldsList-from_map}
 use Rattle.std.proofs.lemmas.Iterator.Consumers.{sum_by_from_yields_List}
 use Rattle.std.proofs.lemmas.List.Recursion.{is_sum_by}

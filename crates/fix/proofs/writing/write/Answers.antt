@@ -1,9 +1,9 @@
-use Rattle.std.proofs.Common.{◌+◌, ◌≤◌, [], ◌∷◌, length, sym, ap, ◌∙◌, arith}
-use Rattle.answers.specs.Answer.{answered, refused, if_answered}
+use Rattle.std.proofs.Common.{◌+◌, [], ◌∷◌, length, sym, ap, ◌∙◌, arith}
+use Rattle.answers.specs.Answer.{refused, if_answered}
 use Rattle.fix.specs.Command.{figures}
 use Rattle.fix.specs.Message.{render}
 use Rattle.fix.specs.Writing.{over_front}
-use Rattle.fix.proofs.Bodies.{no_room, some_room}
+use Rattle.fix.proofs.Bodies.{no_room}
 use Rattle.fix.proofs.Lengths.{render_length}
 use Rattle.fix.proofs.Values.{commands_are_valid}
 use Rattle.fix.proofs.writing.write.Goals as goal
@@ -20,12 +20,3 @@ pub put_message-requires : goal.put_message-requires
 put_message-requires c =
     let command = figures c.args.command.now in
     record { body = c.body_length-body.ensures.value; room = omega (arith, c.body_length-body.ensures.value, render_length command (commands_are_valid c.args.command.now), c.if-out-needed.false) }
-
-pub returns : goal.returns
-returns c =
-    let b = c.args.out.now in
-    let command = figures c.args.command.now in
-    let message = c.put_message.ensures in
-    let fits : length (render command) ≤ length b = omega (arith, c.body_length-body.ensures.value, render_length command (commands_are_valid c.args.command.now), c.if-out-needed.false) in
-    let some = some_room (length (render command)) b fits in
-    record { answer = ap answered message.length ∙ sym some; out = message.out ∙ ap (λ a. if_answered a (over_front b (render command)) b) (sym some) }

@@ -1,8 +1,8 @@
-use Rattle.std.proofs.Common.{◌≡◌, ◌+◌, ◌<◌, length, drop, arith, length-drop}
+use Rattle.std.proofs.Common.{◌≡◌, ◌+◌, drop, arith, length-drop}
 use Rattle.std.proofs.lemmas.List.{take_rest}
 use Rattle.fields.specs.Field.{bind, of_tag, front}
 use Rattle.fields.specs.Numeral.{numeral}
-use Rattle.fields.proofs.Fronts.{rest_at, tag_at, value_at, no_end, no_equals, at_tag, tag_none, tag_unknown, tag_known}
+use Rattle.fields.proofs.Fronts.{tag_at, value_at, no_end, no_equals, at_tag, tag_none, tag_unknown, tag_known}
 use Rattle.fields.proofs.reader.steps.field_at.Goals as goal
 use Rattle.fields.proofs.reader.steps.field_at.Goals.{In_ok-equals}
 

@@ -1,7 +1,7 @@
 use Rattle.std.proofs.Common.{◌+◌, drop, sym, subst}
 use Rattle.std.proofs.lemmas.List.{at_drop_all}
 use Rattle.fix.specs.Writing.{Fits, Wrote, numbers}
-use Rattle.fix.proofs.Writes.{fits_front, fits_after, wrote_more, wrote_none, text_of, next}
+use Rattle.fix.proofs.Writes.{fits_front, fits_after, wrote_more, wrote_none, next}
 use Rattle.fix.proofs.writer.Writer.numbers.Goals as goal
 
 pub loop-field-init : goal.loop-field-init

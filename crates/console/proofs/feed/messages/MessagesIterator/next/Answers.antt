@@ -1,13 +1,12 @@
-use Rattle.std.proofs.Common.{◌≡◌, ◌+◌, ◌<◌, false, cond, length, drop, Some, None, Ok, Err, Option, Result, sym, ap, ◌∙◌, rules, arith, length-drop}
+use Rattle.std.proofs.Common.{◌≡◌, ◌<◌, false, length, Some, None, Ok, Err, Option, Result, ap, rules, arith, length-drop}
 use Rattle.std.specs.Bool.{⊤}
 use Rattle.std.specs.Iterator.{MakesProgress, size}
 use Rattle.fix.specs.Command.{figures}
-use Rattle.fix.specs.Message.{parse_first}
 use Rattle.fix.specs.declared.command.Command as code
 use Rattle.console.specs.declared.feed.Stopped.{Stopped}
 use Rattle.console.specs.declared.feed.messages.Messages.{Messages}
 use Rattle.console.specs.Feed.{source, place, taken, left}
-use Rattle.console.specs.Messages.{Steps, is_refusal, most_left}
+use Rattle.console.specs.Messages.{Steps, most_left}
 use Rattle.console.proofs.Feeds.{command_takes}
 use Rattle.console.proofs.feed.messages.MessagesIterator.next.Goals as goal
 

@@ -1,7 +1,0 @@
-use Rattle.std.proofs.Common.{codes}
-use Rattle.std.proofs.lemmas.Slice.Eq.{slice_eq-Decides, bytes_eq-Decides}
-use Rattle.std.proofs.lemmas.Bool.Decides.{same_from_decides, Decides-eqb}
-use Rattle.fix.proofs.layout.is_version.Goals as goal
-
-pub returns : goal.returns
-returns c = same_from_decides _ _ (slice_eq-Decides Decides-eqb c.args.value.now (codes "FIX.4.4") _ c.eq.ensures) (bytes_eq-Decides _ _)
