@@ -1,4 +1,5 @@
 pub mod First
+pub mod Found
 pub mod Joins
 pub mod Ladder
 pub mod Meets

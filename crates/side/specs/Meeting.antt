@@ -1,5 +1,5 @@
 -- An incoming order on its way through the levels of the other side, which are held by rank.
-use Rattle.std.specs.Prelude.{◌≡◌, ℕ, ◌+◌, ◌*◌, ◌<◌, ◌≤◌, Bool, true, false, List, [], ◌∷◌, ◌++◌, length, take, drop, nat_le}
+use Rattle.std.specs.Prelude.{◌≡◌, ℕ, ◌+◌, ◌*◌, ◌<◌, ◌≤◌, Bool, false, List, [], ◌∷◌, ◌++◌, length, take, drop, nat_le}
 use Rattle.level.specs.declared.trade.Progress.{Progress}
 use Rattle.fix.specs.Command.{NewOrder}
 use Rattle.fix.specs.declared.command.Side.{Side}
@@ -8,7 +8,6 @@ use Rattle.market.specs.declared.resting.Resting.{Resting}
 use Rattle.market.specs.Market.{Level, resting, lots_of}
 use Rattle.market.specs.Put.{meets, kept, after_fills}
 use Rattle.side.specs.Rank.{priced}
-use Rattle.side.specs.Row.{standing}
 
 -- the best level's queue and rank
 abbrev pub first_queue : List Level → List Resting
@@ -40,7 +39,6 @@ pub record Meets (split : ℕ → List ℕ → List ℕ) (o : NewOrder) (ls ls' 
 
 -- where it stands on its way: what it comes to from here is what it came to from the start
 pub record Meeting (split : ℕ → List ℕ → List ℕ) (o : NewOrder) (side : Side) (start : ℕ) (ls ls' : List Level) (list list' : List Entry) (left written : ℕ) : Type 0 where
-  pub stand : standing ls' ≡ true
   pub same_left : (meets split o o.lots (priced side ls)).left ≡ (meets split o left (priced side ls')).left
   pub same_levels : (meets split o o.lots (priced side ls)).levels ≡ (meets split o left (priced side ls')).levels
   pub front : take written list' ++ (meets split o left (priced side ls')).entries ≡ take start list ++ (meets split o o.lots (priced side ls)).entries

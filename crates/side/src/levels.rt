@@ -1,8 +1,5 @@
 // The levels of one side by the ranks of their prices. None can exist that are out of order or empty, or whose count of orders is not theirs.
 ghost use Rattle.std.specs.Prelude.{◌≡◌, ◌+◌, ◌<◌, ◌≤◌, true, ◌&&◌, [], ◌∷◌, ◌++◌, length, IfOk, is_some, vec_len, vec_capacity, nat_lt};
-ghost use Rattle.ordered.specs.Kept.{Sound};
-ghost use Rattle.ordered.specs.Order.{by_price};
-ghost use Rattle.ordered.specs.Row.{node_with, without};
 ghost use Rattle.allocation.specs.Range.{tradable};
 ghost use Rattle.fix.specs.declared.command.Side.TheVariants.{Sell};
 ghost use Rattle.level.specs.Queue.{queue_of};
@@ -71,7 +68,6 @@ impl Levels {
     /// The levels by rank.
     pub(crate) fn nodes(&self) -> &[Node<Price, Level>]
         ensures value { seen result.now ≡ self.now }
-        ensures stand { standing self.now ≡ true }
     {
         self.held.nodes()
     }
@@ -79,6 +75,7 @@ impl Levels {
     /// Whether something is left to trade, and there is a level up to the limit.
     pub(crate) fn crosses(&self, left: u32, limit: u32) -> bool
         ensures value { result ≡ (nat_lt 0 left && first_within limit self.now) }
+        ensures stand { standing self.now ≡ true }
     {
         match self.held.first() {
             None => false,
@@ -92,7 +89,9 @@ impl Levels {
         requires rank { in_range rank.0 ≡ true }
         requires tradable { tradable order.lots ≡ true }
         ensures levels { self.new ≡ joins Sell rank.0 order self.old }
+        ensures stood { standing self.old ≡ true }
     {
+        self.orders += 1;
         match self.held.get_mut(&rank) {
             Some(level) => add(level, order),
             None => {
@@ -106,20 +105,20 @@ impl Levels {
                 }
             }
         }
-        self.orders += 1;
     }
 
     /// Takes out the order of that member and number where it rests at the rank, and its level with it where that leaves nothing.
     pub(crate) fn take_out(&mut self, rank: Price, member: u32, order: u32) -> Option<Resting>
         ensures value { result ≡ in_queue member order (queue_at rank.0 self.old) }
         ensures levels { self.new ≡ out_at rank.0 member order self.old }
+        ensures stood { standing self.old ≡ true }
     {
         let level = self.held.get_mut(&rank)?;
         let taken = level.take_out(member, order)?;
-        if level.len() == 0 {
-            close(&mut self.held, &mut self.spare, &rank);
-        }
         self.orders -= 1;
+        if level.len() == 0 {
+            close(&mut self.spare, self.held.remove(&rank));
+        }
         Some(taken)
     }
 
@@ -160,17 +159,14 @@ fn open(spare: &mut Vec<Level>, order: Resting) -> Level
     level
 }
 
-/// The level at the rank goes to the spare ones.
-fn close(held: &mut OrderedMap<Price, Level>, spare: &mut Vec<Level>, rank: &Price)
-    requires there { is_some (node_with by_price held.old.nodes rank.now) ≡ true }
+/// The level that was taken out goes to the spare ones.
+fn close(spare: &mut Vec<Level>, node: Option<Node<Price, Level>>)
+    requires some { is_some node ≡ true }
     requires room { vec_len spare.old < vec_capacity spare.old }
-    ensures nodes { held.new.nodes ≡ without by_price held.old.nodes rank.now }
-    ensures capacity { held.new.capacity ≡ held.old.capacity }
-    ensures sound { Sound by_price held.new }
     ensures count { vec_len spare.new ≡ vec_len spare.old + 1 }
     ensures memory { vec_capacity spare.new ≡ vec_capacity spare.old }
 {
-    match held.remove(rank) {
+    match node {
         Some(node) => spare.push_reserved(node.value),
         None => unreachable(),
     }

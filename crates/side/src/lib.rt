@@ -12,5 +12,5 @@ mod rank;
 // why a side is left as it was
 mod refusal;
 
-pub use book_side::BookSide;
+pub use book_side::{BookSide, LevelAt};
 pub use refusal::{JoinRefusal, MeetRefusal};

@@ -7,11 +7,12 @@ ghost use Rattle.fix.specs.Command.{order_figures};
 ghost use Rattle.market.specs.Market.{Level as PriceLevel, resting, in_queue, best as best_of, lots_of, total};
 ghost use Rattle.market.specs.Put.{joins};
 ghost use Rattle.side.specs.Levels.{side_of, levels_of};
+ghost use Rattle.side.specs.declared.book_side.LevelAt.{LevelAt};
 ghost use Rattle.side.specs.Queues.{queue_at, out_at};
 ghost use Rattle.side.specs.Meeting.{Meets};
 ghost use Rattle.side.specs.Refusal.{join_answer, joining, meet_answer, meeting};
 
-use crate::book_side::BookSide;
+use crate::book_side::{BookSide, LevelAt};
 use crate::levels::Levels;
 use crate::rank::{in_range, turn};
 use crate::refusal::{JoinRefusal, MeetRefusal};
@@ -75,9 +76,6 @@ impl BookSide {
         ensures levels { levels_of self.new ≡ out_at price member order (levels_of self.old) }
         ensures side { side_of self.new ≡ side_of self.old }
     {
-        if !in_range(price) {
-            return None;
-        }
         let rank = Price(turn(self.side, price));
         self.levels.take_out(rank, member, order)
     }
@@ -102,7 +100,10 @@ impl BookSide {
         if list.len() < 2 * MOST_ORDERS || list.len() - 2 * MOST_ORDERS < start {
             return Err(MeetRefusal::ListTooShort);
         }
-        Ok(self.levels.meet(policy, scratch, self.side, order, start, list))
+        Ok(
+            self.levels
+                .meet(policy, scratch, self.side, order, start, list),
+        )
     }
 
     /// Takes every order out.
@@ -120,27 +121,17 @@ impl BookSide {
         self.levels.nodes().len()
     }
 
-    /// The price of the level at a place, the best at 0.
-    pub fn price_at(&self, place: usize) -> Option<u32>
-        ensures value { result ≡ option_map (λ (l : PriceLevel). l.price) (slice_get (levels_of self.now) place) }
+    /// The level at a place, the best at 0.
+    pub fn level_at(&self, place: usize) -> Option<LevelAt<'_>>
+        ensures price { option_map (λ (l : LevelAt). l.price) result ≡ option_map (λ (l : PriceLevel). l.price) (slice_get (levels_of self.now) place) }
+        ensures queue { option_map (λ (l : LevelAt). l.queue.now) result ≡ option_map (λ (l : PriceLevel). l.queue) (slice_get (levels_of self.now) place) }
+        ensures lots { option_map (λ (l : LevelAt). l.lots) result ≡ option_map (λ (l : PriceLevel). total (lots_of l.queue)) (slice_get (levels_of self.now) place) }
     {
         let node = self.levels.nodes().get(place)?;
-        Some(turn(self.side, node.key.0))
-    }
-
-    /// The queue of the level at a place, oldest first.
-    pub fn queue_at(&self, place: usize) -> Option<&[Resting]>
-        ensures value { option_map (λ x. x.now) result ≡ option_map (λ (l : PriceLevel). l.queue) (slice_get (levels_of self.now) place) }
-    {
-        let node = self.levels.nodes().get(place)?;
-        Some(node.value.queue())
-    }
-
-    /// The lots of the level at a place together.
-    pub fn lots_at(&self, place: usize) -> Option<u32>
-        ensures value { result ≡ option_map (λ (l : PriceLevel). total (lots_of l.queue)) (slice_get (levels_of self.now) place) }
-    {
-        let node = self.levels.nodes().get(place)?;
-        Some(node.value.lots())
+        Some(LevelAt {
+            price: turn(self.side, node.key.0),
+            queue: node.value.queue(),
+            lots: node.value.lots(),
+        })
     }
 }

@@ -4,17 +4,16 @@ ghost use Rattle.allocation.specs.Range.{tradable};
 ghost use Rattle.level.specs.Queue.{queue_of};
 ghost use Rattle.level.specs.Trade.{Reported};
 ghost use Rattle.fix.specs.Command.{order_figures};
-ghost use Rattle.market.specs.Market.{resting, lots_of, other};
+ghost use Rattle.market.specs.Market.{lots_of, other};
 ghost use Rattle.market.specs.Put.{after_fills};
 ghost use Rattle.side.specs.Meeting.{first_queue, first_rank, best_filled, Meets};
 ghost use Rattle.side.specs.Rank.{turned, priced};
-ghost use Rattle.side.specs.Row.{standing};
 
 use crate::levels::{Levels, close};
 use crate::rank::turn;
 use allocation::Policy;
 use fix::{NewOrder, Side};
-use level::{Level, Progress, Scratch};
+use level::{Level, MOST_ORDERS, Progress, Scratch};
 use market::Entry;
 
 /// Trades with a level.
@@ -53,20 +52,18 @@ impl Levels {
         requires left { tradable before.left ≡ true }
         requires room { before.written + 2 * length (first_queue self.old) ≤ length list.old }
         ensures levels { self.new ≡ best_filled (P.Policy.split policy.now before.left) self.old }
-        ensures stand { standing self.new ≡ true }
         ensures reported { Reported (order_figures order.now) (turned side (first_rank self.old)) (P.Policy.split policy.now before.left (lots_of (first_queue self.old))) (first_queue self.old) list.old list.new before result }
     {
-        let rank = self.nodes()[0].key;
+        let price = turn(side, self.nodes()[0].key.0);
         let Some(best) = self.held.first_mut() else {
             unreachable()
         };
         let stood = best.len();
-        let price = turn(side, rank.0);
         let after = trade(best, policy, scratch, order, price, before, list);
         let stays = best.len();
         self.orders -= stood - stays;
         if stays == 0 {
-            close(&mut self.held, &mut self.spare, &rank);
+            close(&mut self.spare, self.held.pop_first());
         }
         after
     }
@@ -82,9 +79,10 @@ impl Levels {
         list: &mut [Entry],
     ) -> Progress
         requires side { side ≡ other order.now.side }
-        requires room { start + 2 * resting self.old ≤ length list.old }
+        requires room { start + 2048 ≤ length list.old }
         ensures meets { Meets (P.Policy.split policy.now) (order_figures order.now) (priced side self.old) (priced side self.new) list.old list.new start result }
     {
+        prove!(self.orders <= MOST_ORDERS);
         let limit = turn(side, order.price);
         let mut after = Progress {
             left: order.lots,

@@ -1,9 +1,6 @@
-use Rattle.std.proofs.Common.{vec_items, sym, ◌∙◌}
-use Rattle.side.specs.Row.{seen}
+use Rattle.std.proofs.Common.{sym, ◌∙◌}
 use Rattle.side.proofs.Prices.{resting_priced}
 use Rattle.side.proofs.book_side.BookSide.len.Goals as goal
 
-pub returns : goal.returns
-returns c =
-    let b = c.args.self.now in
-    record { value = b.counted ∙ sym (resting_priced b.side (seen (vec_items b.levels))); few = b.few }
+pub returns-clause-value : goal.returns-clause-value
+returns-clause-value c = c.orders.ensures.value ∙ sym (resting_priced c.args.self.now.side c.args.self.now.levels)
