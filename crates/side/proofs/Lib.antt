@@ -5,4 +5,5 @@ pub mod Ladder
 pub mod Meets
 pub mod Prices
 pub mod Removals
+pub mod Shapes
 pub mod Turns

@@ -12,7 +12,8 @@ use Rattle.fix.specs.declared.command.Side.TheVariants.{Buy, Sell}
 use Rattle.market.specs.declared.resting.Resting.{Resting}
 use Rattle.market.specs.Market.{Level, better, crosses, other, resting}
 use Rattle.market.specs.Put.{kept, joins, out_of_queue}
-use Rattle.side.specs.Queues.{queue_at, out_at}
+use Rattle.market.specs.Prices.{queue_at}
+use Rattle.side.specs.Queues.{out_at}
 use Rattle.side.specs.Rank.{in_range, turned, at_price, priced}
 use Rattle.side.specs.Row.{seen_as, seen, standing}
 use Rattle.side.proofs.Ladder.{range_low, range_high, range_from, stands_range, standing_head, standing_tail, same_choice}

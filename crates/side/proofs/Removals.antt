@@ -16,7 +16,8 @@ use Rattle.level.specs.Queue.{queue_of}
 use Rattle.market.specs.declared.resting.Resting.{Resting}
 use Rattle.market.specs.Market.{Level, is_of, in_queue, resting}
 use Rattle.market.specs.Put.{kept, out_of_queue}
-use Rattle.side.specs.Queues.{queue_at, out_at}
+use Rattle.market.specs.Prices.{queue_at}
+use Rattle.side.specs.Queues.{out_at}
 use Rattle.side.specs.Row.{seen_as, seen, standing, InStep}
 use Rattle.side.proofs.First.{resting_kept, standing_kept}
 use Rattle.side.proofs.Found.{is_there, none_there, value_here, value_later}

@@ -5,10 +5,12 @@ ghost use Rattle.fix.specs.declared.command.Side.TheVariants.{Sell};
 ghost use Rattle.level.specs.Queue.{queue_of};
 ghost use Rattle.market.specs.Market.{resting, in_queue};
 ghost use Rattle.market.specs.Put.{joins};
-ghost use Rattle.side.specs.Queues.{queue_at, out_at};
+ghost use Rattle.market.specs.Prices.{queue_at};
+ghost use Rattle.side.specs.Queues.{out_at};
 ghost use Rattle.side.specs.Meeting.{first_within};
 ghost use Rattle.side.specs.Rank.{in_range};
-ghost use Rattle.side.specs.Row.{seen, standing};
+ghost use Rattle.side.specs.Row.{seen};
+ghost use Rattle.side.specs.Shape.{Shaped};
 
 // levels that an incoming order meets
 mod meet;
@@ -61,6 +63,7 @@ impl Levels {
     pub(crate) fn orders(&self) -> usize
         ensures value { result ≡ resting self.now }
         ensures few { result ≤ 1024 }
+        ensures shaped { Shaped Sell self.now }
     {
         self.orders
     }
@@ -75,7 +78,7 @@ impl Levels {
     /// Whether something is left to trade, and there is a level up to the limit.
     pub(crate) fn crosses(&self, left: u32, limit: u32) -> bool
         ensures value { result ≡ (nat_lt 0 left && first_within limit self.now) }
-        ensures stand { standing self.now ≡ true }
+        ensures shaped { Shaped Sell self.now }
     {
         match self.held.first() {
             None => false,
@@ -89,7 +92,7 @@ impl Levels {
         requires rank { in_range rank.0 ≡ true }
         requires tradable { tradable order.lots ≡ true }
         ensures levels { self.new ≡ joins Sell rank.0 order self.old }
-        ensures stood { standing self.old ≡ true }
+        ensures shaped { Shaped Sell self.old }
     {
         self.orders += 1;
         match self.held.get_mut(&rank) {
@@ -111,7 +114,7 @@ impl Levels {
     pub(crate) fn take_out(&mut self, rank: Price, member: u32, order: u32) -> Option<Resting>
         ensures value { result ≡ in_queue member order (queue_at rank.0 self.old) }
         ensures levels { self.new ≡ out_at rank.0 member order self.old }
-        ensures stood { standing self.old ≡ true }
+        ensures shaped { Shaped Sell self.old }
     {
         let level = self.held.get_mut(&rank)?;
         let taken = level.take_out(member, order)?;

@@ -8,8 +8,10 @@ ghost use Rattle.market.specs.Market.{Level as PriceLevel, resting, in_queue, be
 ghost use Rattle.market.specs.Put.{joins};
 ghost use Rattle.side.specs.Levels.{side_of, levels_of};
 ghost use Rattle.side.specs.declared.book_side.LevelAt.{LevelAt};
-ghost use Rattle.side.specs.Queues.{queue_at, out_at};
+ghost use Rattle.market.specs.Prices.{queue_at};
+ghost use Rattle.side.specs.Queues.{out_at};
 ghost use Rattle.side.specs.Meeting.{Meets};
+ghost use Rattle.side.specs.Shape.{Shaped};
 ghost use Rattle.side.specs.Refusal.{join_answer, joining, meet_answer, meeting};
 
 use crate::book_side::{BookSide, LevelAt};
@@ -36,6 +38,7 @@ impl BookSide {
     pub fn len(&self) -> usize
         ensures value { result ≡ resting (levels_of self.now) }
         ensures few { result ≤ 1024 }
+        ensures shaped { Shaped (side_of self.now) (levels_of self.now) }
     {
         self.levels.orders()
     }
@@ -74,6 +77,7 @@ impl BookSide {
     pub fn take_out(&mut self, price: u32, member: u32, order: u32) -> Option<Resting>
         ensures value { result ≡ in_queue member order (queue_at price (levels_of self.old)) }
         ensures levels { levels_of self.new ≡ out_at price member order (levels_of self.old) }
+        ensures shaped { Shaped (side_of self.old) (levels_of self.old) }
         ensures side { side_of self.new ≡ side_of self.old }
     {
         let rank = Price(turn(self.side, price));
@@ -92,6 +96,7 @@ impl BookSide {
     ) -> Result<Progress, MeetRefusal>
         ensures answers { meet_answer result ≡ meeting order.now.side (side_of self.old) start (length list.old) }
         ensures told { MatchResult result (λ after. Meets (P.Policy.split policy.now) (order_figures order.now) (levels_of self.old) (levels_of self.new) list.old list.new start after) (λ _. (levels_of self.new ≡ levels_of self.old) × (list.new ≡ list.old)) }
+        ensures shaped { IfOk result (λ _. Shaped (side_of self.old) (levels_of self.old)) }
         ensures side { side_of self.new ≡ side_of self.old }
     {
         if is_same(order.side, self.side) {

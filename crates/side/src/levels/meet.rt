@@ -4,10 +4,12 @@ ghost use Rattle.allocation.specs.Range.{tradable};
 ghost use Rattle.level.specs.Queue.{queue_of};
 ghost use Rattle.level.specs.Trade.{Reported};
 ghost use Rattle.fix.specs.Command.{order_figures};
+ghost use Rattle.fix.specs.declared.command.Side.TheVariants.{Sell};
 ghost use Rattle.market.specs.Market.{lots_of, other};
 ghost use Rattle.market.specs.Put.{after_fills};
 ghost use Rattle.side.specs.Meeting.{first_queue, first_rank, best_filled, Meets};
 ghost use Rattle.side.specs.Rank.{turned, priced};
+ghost use Rattle.side.specs.Shape.{Shaped};
 
 use crate::levels::{Levels, close};
 use crate::rank::turn;
@@ -80,6 +82,7 @@ impl Levels {
     ) -> Progress
         requires side { side ≡ other order.now.side }
         requires room { start + 2048 ≤ length list.old }
+        ensures shaped { Shaped Sell self.old }
         ensures meets { Meets (P.Policy.split policy.now) (order_figures order.now) (priced side self.old) (priced side self.new) list.old list.new start result }
     {
         prove!(self.orders <= MOST_ORDERS);

@@ -42,7 +42,7 @@ returns c =
       answers = sym fits;
       levels =
           ap (priced b.side) (c.join.ensures.levels ∙ ap (λ p. joins Sell p o b.levels) rank)
-          ∙ joins_priced b.side (turned b.side price) o b.levels (turned_range b.side price range) c.join.ensures.stood
+          ∙ joins_priced b.side (turned b.side price) o b.levels (turned_range b.side price range) c.join.ensures.shaped.stand
           ∙ ap (λ p. joins b.side p o ls) (turned_twice b.side price range)
           ∙ sym (ap (λ (a : Answer (Unit {0})). if_answered a (joins b.side price o ls) ls) fits);
       side = refl;

@@ -1,7 +1,9 @@
 use Rattle.std.proofs.Common.{refl, ap, ◌∙◌}
 use Rattle.market.specs.Market.{in_queue}
-use Rattle.side.specs.Queues.{queue_at, out_at}
+use Rattle.market.specs.Prices.{queue_at}
+use Rattle.side.specs.Queues.{out_at}
 use Rattle.side.specs.Rank.{priced}
+use Rattle.side.proofs.Shapes.{shaped_priced}
 use Rattle.side.proofs.Prices.{queue_priced, out_priced}
 use Rattle.side.proofs.book_side.BookSide.take_out.Goals as goal
 
@@ -12,7 +14,8 @@ returns c =
     let member = c.args.member in
     let order = c.args.order in
     record {
-      value = c.take_out.ensures.value ∙ ap (λ p. in_queue member order (queue_at p b.levels)) rank ∙ ap (in_queue member order) (queue_priced b.side c.args.price b.levels c.take_out.ensures.stood);
-      levels = ap (priced b.side) (c.take_out.ensures.levels ∙ ap (λ p. out_at p member order b.levels) rank) ∙ out_priced b.side c.args.price member order b.levels c.take_out.ensures.stood;
+      value = c.take_out.ensures.value ∙ ap (λ p. in_queue member order (queue_at p b.levels)) rank ∙ ap (in_queue member order) (queue_priced b.side c.args.price b.levels c.take_out.ensures.shaped.stand);
+      levels = ap (priced b.side) (c.take_out.ensures.levels ∙ ap (λ p. out_at p member order b.levels) rank) ∙ out_priced b.side c.args.price member order b.levels c.take_out.ensures.shaped.stand;
+      shaped = shaped_priced b.side b.levels c.take_out.ensures.shaped;
       side = refl;
     }

@@ -1,4 +1,4 @@
-use Rattle.std.proofs.Common.{◌≡◌, [], ap, ◌∙◌, arith}
+use Rattle.std.proofs.Common.{◌≡◌, [], ap, ◌∙◌, arith, subst}
 use Rattle.answers.specs.Answer.{answered, refused}
 use Rattle.ordered.specs.Order.{by_price}
 use Rattle.ordered.specs.Refusal.{number_of}
@@ -6,6 +6,8 @@ use Rattle.ordered.proofs.Insertions.{insertion_fits}
 use Rattle.fix.specs.declared.command.Side.TheVariants.{Sell}
 use Rattle.market.specs.Market.{resting}
 use Rattle.market.specs.Put.{joins}
+use Rattle.side.specs.Shape.{Shaped}
+use Rattle.side.proofs.Shapes.{shaped_from}
 use Rattle.side.specs.Row.{seen}
 use Rattle.side.proofs.Found.{is_none}
 use Rattle.side.proofs.Joins.{queue_short, seen_joined, seen_put, fewer, joined_in_step, opened_in_step}
@@ -48,3 +50,9 @@ pub returns-in-Ok-clause-levels : goal.returns-in-Ok-clause-levels
 returns-in-Ok-clause-levels c =
     let ns = c.self.inside.held.nodes in
     ap seen c.in-Ok.ensures.told.nodes ∙ seen_put (record { key = c.args.rank; value = c.open.result }) c.args.order ns c.open.ensures.queue (is_none ns c.args.rank c.in-None.ensures.value) ∙ ap (joins Sell c.args.rank.0 c.args.order) c.self.view_is
+
+pub returns-in-Some-clause-shaped : goal.returns-in-Some-clause-shaped
+returns-in-Some-clause-shaped c = subst (Shaped Sell) c.self.view_is (shaped_from _ _ _ _ c.self.invariant)
+
+pub returns-in-Ok-clause-shaped : goal.returns-in-Ok-clause-shaped
+returns-in-Ok-clause-shaped c = subst (Shaped Sell) c.self.view_is (shaped_from _ _ _ _ c.self.invariant)

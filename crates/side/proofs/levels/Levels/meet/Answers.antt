@@ -1,10 +1,13 @@
-use Rattle.std.proofs.Common.{◌≡◌, ℕ, min, List, [], ◌++◌, take, sym, refl, ap, ◌∙◌, arith, ◌≤◌}
+use Rattle.std.proofs.Common.{◌≡◌, ℕ, min, List, [], ◌++◌, take, sym, refl, ap, ◌∙◌, arith, ◌≤◌, subst}
 use Rattle.std.proofs.lemmas.List.{append-nil}
 use Rattle.fix.specs.Command.{order_figures}
 use Rattle.std.specs.List.{AllZip}
 use Rattle.level.proofs.Queues.{fits_from, total_sum, tradable_from}
 use Rattle.market.specs.Market.{total, resting}
 use Rattle.market.specs.Put.{Met, meets}
+use Rattle.fix.specs.declared.command.Side.TheVariants.{Sell}
+use Rattle.side.specs.Shape.{Shaped}
+use Rattle.side.proofs.Shapes.{shaped_from}
 use Rattle.side.specs.Rank.{priced}
 use Rattle.side.proofs.First.{first_few}
 use Rattle.side.proofs.Ladder.{range_from}
@@ -24,7 +27,7 @@ trade_best-after-requires g c =
     let lp = c.loop-side in
     let o = c.args.order.now in
     let fits = range_from o.price o.price_within.0 o.price_within.1 in
-    let x = crossing (order_figures o) c.args.side c.turn-limit.result c.requires.side c.turn-limit.ensures.value fits lp.self lp.after.left c.loop-side-test.ensures.stand c.loop-side-test.ensures.value in
+    let x = crossing (order_figures o) c.args.side c.turn-limit.result c.requires.side c.turn-limit.ensures.value fits lp.self lp.after.left c.loop-side-test.ensures.shaped.stand c.loop-side-test.ensures.value in
     record {
       some = x.some;
       left = tradable_from lp.after.left x.more (omega (arith, lp.invariant.most, o.lots_within.1));
@@ -38,7 +41,7 @@ loop-side-smaller g c =
     let o = c.args.order.now in
     let p = c.args.policy.now in
     let fits = range_from o.price o.price_within.0 o.price_within.1 in
-    let x = crossing (order_figures o) c.args.side c.turn-limit.result c.requires.side c.turn-limit.ensures.value fits lp.self lp.after.left c.loop-side-test.ensures.stand c.loop-side-test.ensures.value in
+    let x = crossing (order_figures o) c.args.side c.turn-limit.result c.requires.side c.turn-limit.ensures.value fits lp.self lp.after.left c.loop-side-test.ensures.shaped.stand c.loop-side-test.ensures.value in
     less_again (g.P.Policy.split p) (fitting g p) (full g p) (order_figures o) c.args.side c.args.start c.args.self.now lp.self d.new.self c.args.list.now lp.list d.new.list lp.after d.result lp.invariant x.more x.some x.crossed d.ensures.levels d.ensures.reported
 
 pub loop-side-preserved : goal.loop-side-preserved
@@ -48,7 +51,7 @@ loop-side-preserved g c =
     let o = c.args.order.now in
     let p = c.args.policy.now in
     let fits = range_from o.price o.price_within.0 o.price_within.1 in
-    let x = crossing (order_figures o) c.args.side c.turn-limit.result c.requires.side c.turn-limit.ensures.value fits lp.self lp.after.left c.loop-side-test.ensures.stand c.loop-side-test.ensures.value in
+    let x = crossing (order_figures o) c.args.side c.turn-limit.result c.requires.side c.turn-limit.ensures.value fits lp.self lp.after.left c.loop-side-test.ensures.shaped.stand c.loop-side-test.ensures.value in
     met_again (g.P.Policy.split p) (fitting g p) (full g p) (order_figures o) c.args.side c.args.start c.args.self.now lp.self d.new.self c.args.list.now lp.list d.new.list lp.after d.result lp.invariant x.more x.some x.crossed d.ensures.levels d.ensures.reported d.auto.list
 
 pub returns : goal.returns
@@ -58,8 +61,9 @@ returns g c =
     let p = c.args.policy.now in
     let split = g.P.Policy.split p in
     let fits = range_from o.price o.price_within.0 o.price_within.1 in
-    let end : meets split (order_figures o) lp.after.left (priced c.args.side lp.self) ≡ record { left = lp.after.left; levels = priced c.args.side lp.self; entries = [] } = meets_end (order_figures o) c.args.side c.turn-limit.result c.requires.side c.turn-limit.ensures.value fits split (fitting g p) (full g p) lp.self lp.after.left c.loop-side-test.ensures.stand c.loop-side-test.ensures.value in
+    let end : meets split (order_figures o) lp.after.left (priced c.args.side lp.self) ≡ record { left = lp.after.left; levels = priced c.args.side lp.self; entries = [] } = meets_end (order_figures o) c.args.side c.turn-limit.result c.requires.side c.turn-limit.ensures.value fits split (fitting g p) (full g p) lp.self lp.after.left c.loop-side-test.ensures.shaped.stand c.loop-side-test.ensures.value in
     record {
+      shaped = subst (Shaped Sell) c.self.view_is (shaped_from _ _ _ _ c.self.invariant);
       meets = record {
         levels = sym (lp.invariant.same_levels ∙ ap (λ (m : Met). m.levels) end);
         left = sym (lp.invariant.same_left ∙ ap (λ (m : Met). m.left) end);

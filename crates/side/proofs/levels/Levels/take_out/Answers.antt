@@ -1,11 +1,15 @@
-use Rattle.std.proofs.Common.{length, is_some, None, Some, sym, ap, ◌∙◌, arith}
+use Rattle.std.proofs.Common.{length, is_some, None, Some, sym, ap, ◌∙◌, arith, subst}
 use Rattle.ordered.specs.Order.{by_price}
 use Rattle.ordered.specs.Row.{with_value}
 use Rattle.ordered.proofs.Lookups.{length_without}
 use Rattle.ordered.proofs.Values.{value_same}
 use Rattle.level.specs.Queue.{queue_of}
 use Rattle.market.specs.Market.{in_queue}
-use Rattle.side.specs.Queues.{queue_at, out_at}
+use Rattle.market.specs.Prices.{queue_at}
+use Rattle.fix.specs.declared.command.Side.TheVariants.{Sell}
+use Rattle.side.specs.Shape.{Shaped}
+use Rattle.side.proofs.Shapes.{shaped_from}
+use Rattle.side.specs.Queues.{out_at}
 use Rattle.side.specs.Row.{seen}
 use Rattle.side.proofs.Found.{is_none, is_there}
 use Rattle.side.proofs.Removals.{queue_nowhere, out_nowhere, queue_found, queue_out, queue_some, taken_count, counted_out, seen_left, seen_gone, left_in_step, gone_in_step}
@@ -103,3 +107,15 @@ pub returns-else-len-eq0-clause-levels : goal.returns-else-len-eq0-clause-levels
 returns-else-len-eq0-clause-levels c =
     seen_left c.args.member c.args.order c.args.rank c.in_ok-level.level.now c.take_out.new.self c.self.inside.held.nodes c.in_ok-level.ensures.value (omega (arith, c.len.ensures.value, c.if-len-eq0.false)) c.take_out.ensures.queue
     ∙ ap (out_at c.args.rank.0 c.args.member c.args.order) c.self.view_is
+
+pub returns-in_err-level-clause-shaped : goal.returns-in_err-level-clause-shaped
+returns-in_err-level-clause-shaped c = subst (Shaped Sell) c.self.view_is (shaped_from _ _ _ _ c.self.invariant)
+
+pub returns-in_err-taken-clause-shaped : goal.returns-in_err-taken-clause-shaped
+returns-in_err-taken-clause-shaped c = subst (Shaped Sell) c.self.view_is (shaped_from _ _ _ _ c.self.invariant)
+
+pub returns-then-len-eq0-clause-shaped : goal.returns-then-len-eq0-clause-shaped
+returns-then-len-eq0-clause-shaped c = subst (Shaped Sell) c.self.view_is (shaped_from _ _ _ _ c.self.invariant)
+
+pub returns-else-len-eq0-clause-shaped : goal.returns-else-len-eq0-clause-shaped
+returns-else-len-eq0-clause-shaped c = subst (Shaped Sell) c.self.view_is (shaped_from _ _ _ _ c.self.invariant)
