@@ -7,7 +7,7 @@ mod entries;
 
 use crate::entries::{ENTRY_HEADER, EntryRow, LEVEL_HEADER, Totals};
 use allocation::Policy;
-use book::{Book, MOST_ENTRIES};
+use book::{Book, LevelAt, MOST_ENTRIES};
 use console::Feed;
 use fix::Side;
 use market::Entry;
@@ -58,16 +58,11 @@ fn trade_all<P: Policy>(
 fn print_side(rt: &HostRuntime, book: &Book, side: Side) -> anyhow::Result<()> {
     let number = side.number();
     for place in 0..book.levels(side) {
-        let Some(price) = book.price_at(side, place) else {
+        let Some(level) = book.level_at(side, place) else {
             break;
         };
-        let Some(queue) = book.queue_at(side, place) else {
-            break;
-        };
-        let Some(lots) = book.lots_at(side, place) else {
-            break;
-        };
-        let orders = queue.len();
+        let LevelAt { price, lots, .. } = level;
+        let orders = level.queue.len();
         println!(rt; "{number}\t{price}\t{orders}\t{lots}")?;
     }
     Ok(())
