@@ -16,6 +16,7 @@ use std::alloc::{AllocError, Global};
 
 impl Book {
     /// An empty book. All its memory is reserved here, and want of it is the one failure; nothing allocates after this.
+    #[tactic(auto, using(crate::proofs::Known::none_placed))]
     pub fn new(heap: Global) -> Result<Book, AllocError>
         ensures made { IfOk result (λ b. market_of b ≡ empty) }
     {
@@ -54,6 +55,7 @@ impl Book {
     }
 
     /// Takes every order out.
+    #[tactic(auto, using(crate::proofs::Known::none_placed))]
     pub fn clear(&mut self)
         ensures market { market_of self.new ≡ empty }
     {

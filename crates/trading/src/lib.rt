@@ -57,12 +57,9 @@ fn trade_all<P: Policy>(
 
 fn print_side(rt: &HostRuntime, book: &Book, side: Side) -> anyhow::Result<()> {
     let number = side.number();
-    for place in 0..book.levels(side) {
-        let Some(level) = book.level_at(side, place) else {
-            break;
-        };
-        let LevelAt { price, lots, .. } = level;
-        let orders = level.queue.len();
+    for level in (0..book.levels(side)).filter_map(|place| book.level_at(side, place)) {
+        let LevelAt { price, queue, lots } = level;
+        let orders = queue.len();
         println!(rt; "{number}\t{price}\t{orders}\t{lots}")?;
     }
     Ok(())
