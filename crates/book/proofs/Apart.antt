@@ -1,23 +1,19 @@
 -- The levels of a side have prices of their own, and something rests at each.
-use Rattle.std.proofs.Common.{◌≡◌, ℕ, ◌+◌, ◌<◌, ◌≤◌, Bool, true, false, cond, eqb, List, [], ◌∷◌, length, Some, None, vec_items, Option, sym, refl, ap, ◌∙◌, ⊎_elim, arith}
-use Rattle.std.proofs.lemmas.Bool.{cases_Bool, cond-true, cond-false, eqb-true, eqb-false, eq-eqb, ne_eqb, ltb-true}
+use Rattle.std.proofs.Common.{◌≡◌, ℕ, ◌+◌, ◌<◌, ◌≤◌, Bool, true, false, cond, eqb, List, [], ◌∷◌, length, Some, None, Option, sym, refl, ap, ◌∙◌, ⊎_elim, arith}
+use Rattle.std.proofs.lemmas.Bool.{cases_Bool, cond-true, cond-false, eqb-true, eqb-false, eq-eqb, ne_eqb}
 use Rattle.fix.specs.declared.command.Side.{Side}
-use Rattle.fix.specs.declared.command.Side.TheVariants.{Buy, Sell}
-use Rattle.ordered.specs.Order.{by_price}
-use Rattle.ordered.specs.Row.{ascending, all_above}
 use Rattle.ordered.specs.declared.key.order_id.OrderId.{OrderId}
-use Rattle.ordered.specs.declared.key.price.Price.{Price}
-use Rattle.ordered.specs.declared.node.Node.{Node}
-use Rattle.ordered.proofs.Ascends.{above_parts, ascending_parts}
-use Rattle.level.specs.declared.level.Level.{Level as Held}
 use Rattle.market.specs.declared.resting.Resting.{Resting}
 use Rattle.market.specs.Market.{Level, is_of, in_queue, in_levels, or_else}
 use Rattle.market.specs.Put.{kept, out_of_queue, out_of_levels}
-use Rattle.side.specs.declared.book_side.BookSide.{BookSide}
-use Rattle.side.specs.Levels.{levels_of, queue_at, out_at}
-use Rattle.side.specs.Rank.{in_range, turned, priced}
-use Rattle.side.specs.Row.{seen, standing}
-use Rattle.side.proofs.Ladder.{less_is, range_high, stands_range, stands_some, standing_head, standing_tail}
+use Rattle.market.specs.Prices.{Better, queue_at}
+use Rattle.market.specs.Shape.{Sorted}
+use Rattle.market.proofs.Levels.{better_differs}
+use Rattle.side.specs.Queues.{out_at}
+use Rattle.side.specs.Row.{standing}
+use Rattle.side.specs.Shape.{Shaped}
+use Rattle.side.proofs.Ladder.{stands_some, standing_head, standing_tail}
+use Rattle.std.specs.List.{AllByRecursion}
 use Rattle.book.specs.Place.{occurs, held}
 
 abbrev pub NoneAt : ℕ → List Level → Type 0
@@ -28,24 +24,16 @@ abbrev pub Apart : List Level → Type 0
 Apart [] = Unit {0}
 Apart (l ∷ ls) = (0 < length l.queue) × NoneAt l.price ls × Apart ls
 
-turned_apart : (s : Side) (a b : ℕ) → in_range a ≡ true → in_range b ≡ true → a < b → turned s b ≡ turned s a → ⊥
-turned_apart Buy a b f g h e = omega (arith, range_high a f, range_high b g)
-turned_apart Sell a b f g h e = omega arith
+none_worse : (s : Side) (p : ℕ) (ls : List Level) → AllByRecursion (λ (worse : Level). Better s p worse.price) ls → NoneAt p ls
+none_worse s p [] w = tt
+none_worse s p (l ∷ ls) w = (λ e. better_differs s p l.price w.0 (sym e), none_worse s p ls w.1)
 
-none_below : (s : Side) (k : Price) (ns : List (Node Price Held)) → in_range k.0 ≡ true → standing ns ≡ true → all_above by_price k ns ≡ true → NoneAt (turned s k.0) (priced s (seen ns))
-none_below s k [] f t a = tt
-none_below s k (n ∷ ns) f t a =
-    let p = above_parts by_price k n ns a in
-    (turned_apart s k.0 n.key.0 f (stands_range n (standing_head n ns t)) (ltb-true _ _ (sym (less_is k.0 n.key.0) ∙ p.0)), none_below s k ns f (standing_tail n ns t) p.1)
-
-nodes_apart : (s : Side) (ns : List (Node Price Held)) → standing ns ≡ true → ascending by_price ns ≡ true → Apart (priced s (seen ns))
-nodes_apart s [] t up = tt
-nodes_apart s (n ∷ ns) t up =
-    let p = ascending_parts by_price n ns up in
-    (stands_some n (standing_head n ns t), none_below s n.key ns (stands_range n (standing_head n ns t)) (standing_tail n ns t) p.0, nodes_apart s ns (standing_tail n ns t) p.1)
-
-pub levels_apart : (b : BookSide) → Apart (levels_of b)
-levels_apart b = nodes_apart b.side (vec_items b.levels) b.stand b.ascends
+pub shaped_apart : (s : Side) (ls : List Level) → Shaped s ls → Apart ls
+shaped_apart s ls h = by ls h.sorted h.stand
+  where
+    by : (ls : List Level) → Sorted s ls → standing ls ≡ true → Apart ls
+    by [] o t = tt
+    by (l ∷ ls) o t = (stands_some l (standing_head l ls t), none_worse s l.price ls o.0, by ls o.1 (standing_tail l ls t))
 
 -- ---- an order that does not occur
 

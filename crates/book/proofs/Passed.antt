@@ -16,7 +16,8 @@ use Rattle.book.specs.declared.place.Place.{Place}
 use Rattle.book.specs.Place.{occurs, held, place_of, told, forgotten}
 use Rattle.book.proofs.Forgotten.{Forgets, forgotten_append, gone, present, occurs_after, length_gone, forget_queue}
 use Rattle.book.proofs.Places.{told_most, told_one_price, told_one_side}
-use Rattle.book.proofs.Sound.{Tradable}
+use Rattle.std.specs.List.{AllByRecursion}
+use Rattle.side.specs.Shape.{InLots}
 
 pub held_kept : (k : OrderId) (p price : ℕ) (q : List Resting) (ls : List Level) → held k p (kept price q ls) ≡ cond (eqb price p) (occurs k q) 0 + held k p ls
 held_kept k p price [] ls = none (eqb price p)
@@ -94,7 +95,7 @@ module _ (o : NewOrder) where
         (cases_lt 0 (occurs k (gone fs q)))
 
   module _ (split : ℕ → List ℕ → List ℕ) (fitting : (q : ℕ) (ls : List ℕ) → AllZip ◌≤◌ (split q ls) ls) where
-    pub passed : (beyond : OrderId → ℕ → ℕ) (left : ℕ) (ls : List Level) (ns : List (Node OrderId Place)) → Tradable ls → ascending by_order_id ns ≡ true → ((k : OrderId) (p : ℕ) → beyond k p + held k p ls ≡ told (place_of ns k) (other o.side) p) → Passed beyond ls ns (meets split o left ls)
+    pub passed : (beyond : OrderId → ℕ → ℕ) (left : ℕ) (ls : List Level) (ns : List (Node OrderId Place)) → AllByRecursion InLots ls → ascending by_order_id ns ≡ true → ((k : OrderId) (p : ℕ) → beyond k p + held k p ls ≡ told (place_of ns k) (other o.side) p) → Passed beyond ls ns (meets split o left ls)
     passed beyond left [] ns t up placed = idle beyond left [] ns placed
     passed beyond zero (l ∷ ls) ns t up placed = idle beyond 0 (l ∷ ls) ns placed
     passed beyond (suc left) (l ∷ ls) ns t up placed =

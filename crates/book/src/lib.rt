@@ -18,3 +18,4 @@ mod refusal;
 
 pub use book::Book;
 pub use refusal::{ListTooShort, MOST_ENTRIES};
+pub use side::LevelAt;

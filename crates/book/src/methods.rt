@@ -4,18 +4,19 @@ ghost use Rattle.std.specs.Option.{option_map};
 ghost use Rattle.std.specs.List.{slice_get};
 ghost use Rattle.market.specs.Market.{Level, empty, best, all_resting, levels as levels_on, lots_of, total};
 ghost use Rattle.side.specs.Levels.{levels_of};
+ghost use Rattle.side.specs.declared.book_side.LevelAt.{LevelAt};
 ghost use Rattle.book.specs.Market.{market_of};
 
 use crate::book::Book;
 use fix::Side;
 use level::{MOST_ORDERS, Scratch};
-use market::Resting;
 use ordered::OrderedMap;
-use side::BookSide;
+use side::{BookSide, LevelAt};
 use std::alloc::{AllocError, Global};
 
 impl Book {
     /// An empty book. All its memory is reserved here, and want of it is the one failure; nothing allocates after this.
+    #[tactic(auto, using(crate::proofs::Known::none_placed))]
     pub fn new(heap: Global) -> Result<Book, AllocError>
         ensures made { IfOk result (λ b. market_of b ≡ empty) }
     {
@@ -54,6 +55,7 @@ impl Book {
     }
 
     /// Takes every order out.
+    #[tactic(auto, using(crate::proofs::Known::none_placed))]
     pub fn clear(&mut self)
         ensures market { market_of self.new ≡ empty }
     {
@@ -78,24 +80,12 @@ impl Book {
         self.side(side).levels()
     }
 
-    /// The price of a side's level, the best at 0.
-    pub fn price_at(&self, side: Side, place: usize) -> Option<u32>
-        ensures value { result ≡ option_map (λ (l : Level). l.price) (slice_get (levels_on side (market_of self.now)) place) }
+    /// The level of a side at a place, the best at 0.
+    pub fn level_at(&self, side: Side, place: usize) -> Option<LevelAt<'_>>
+        ensures price { option_map (λ (l : LevelAt). l.price) result ≡ option_map (λ (l : Level). l.price) (slice_get (levels_on side (market_of self.now)) place) }
+        ensures queue { option_map (λ (l : LevelAt). l.queue.now) result ≡ option_map (λ (l : Level). l.queue) (slice_get (levels_on side (market_of self.now)) place) }
+        ensures lots { option_map (λ (l : LevelAt). l.lots) result ≡ option_map (λ (l : Level). total (lots_of l.queue)) (slice_get (levels_on side (market_of self.now)) place) }
     {
-        self.side(side).price_at(place)
-    }
-
-    /// The queue of a side's level, oldest first.
-    pub fn queue_at(&self, side: Side, place: usize) -> Option<&[Resting]>
-        ensures value { option_map (λ x. x.now) result ≡ option_map (λ (l : Level). l.queue) (slice_get (levels_on side (market_of self.now)) place) }
-    {
-        self.side(side).queue_at(place)
-    }
-
-    /// The lots of a side's level together.
-    pub fn lots_at(&self, side: Side, place: usize) -> Option<u32>
-        ensures value { result ≡ option_map (λ (l : Level). total (lots_of l.queue)) (slice_get (levels_on side (market_of self.now)) place) }
-    {
-        self.side(side).lots_at(place)
+        self.side(side).level_at(place)
     }
 }

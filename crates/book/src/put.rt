@@ -2,9 +2,9 @@
 ghost use Rattle.std.specs.Prelude.{◌≡◌, ◌<◌, ◌≤◌, false, [], ◌∷◌, ◌++◌, length, take, drop, None};
 ghost use Rattle.answers.specs.Answer.{if_answered};
 ghost use Rattle.fix.specs.Command.{figures, order_figures, cancel_figures};
-ghost use Rattle.market.specs.declared.entry.Event.TheVariants.{Accepted, OrderTurnedDown};
 ghost use Rattle.market.specs.Market.{known, best_crosses, levels, with_levels, other, capacity, all_resting};
 ghost use Rattle.market.specs.Put.{entry as entry_of, order_refusal, meets, rests, trades, put_order, put_cancel, put};
+ghost use Rattle.side.specs.Shape.{Shaped};
 ghost use Rattle.book.specs.Market.{market_of};
 ghost use Rattle.book.specs.Put.{answer, putting, written};
 
@@ -18,28 +18,10 @@ use level::{MOST_ORDERS, Progress};
 use market::{Entry, Event, Reason, Resting};
 use ordered::OrderId;
 
-fn accepted(order: &NewOrder) -> Entry
-    ensures value { result ≡ entry_of order.now.number order.now.member order.now.order (Accepted order.now.side order.now.lots) }
+/// What the command for a new order tells of that order.
+fn entry_for(order: &NewOrder, event: Event) -> Entry
+    ensures value { result ≡ entry_of order.now.number order.now.member order.now.order event }
 {
-    let event = Event::Accepted {
-        side: order.side,
-        lots: order.lots,
-    };
-    Entry {
-        command: order.number,
-        member: order.member,
-        order: order.order,
-        event,
-    }
-}
-
-fn turned_down(order: &NewOrder, reason: Reason) -> Entry
-    ensures value { result ≡ entry_of order.now.number order.now.member order.now.order (OrderTurnedDown order.now.side reason) }
-{
-    let event = Event::OrderTurnedDown {
-        side: order.side,
-        reason,
-    };
     Entry {
         command: order.number,
         member: order.member,
@@ -61,14 +43,8 @@ impl Book {
         ensures value { result ≡ best_crosses order.now.side order.now.price (levels (other order.now.side) (market_of self.now)) }
     {
         match order.side {
-            Side::Buy => match self.best_sell() {
-                Some(price) => price <= order.price,
-                None => false,
-            },
-            Side::Sell => match self.best_buy() {
-                Some(price) => order.price <= price,
-                None => false,
-            },
+            Side::Buy => self.best_sell().is_some_and(|price| price <= order.price),
+            Side::Sell => self.best_buy().is_some_and(|price| order.price <= price),
         }
     }
 
@@ -93,6 +69,7 @@ impl Book {
         ensures front { take result.written list.new ≡ take 1 list.old ++ (meets (P.Policy.split policy.now) (order_figures order.now) order.now.lots (levels (other order.now.side) (market_of self.old))).entries }
         ensures back { drop result.written list.new ≡ drop result.written list.old }
         ensures upto { result.written ≤ length list.new }
+        ensures shaped { Shaped (other order.now.side) (levels (other order.now.side) (market_of self.old)) }
     {
         match order.side {
             Side::Buy => meet(
@@ -148,7 +125,11 @@ impl Book {
         ensures back { drop result list.new ≡ drop result list.old }
         ensures upto { result ≤ length list.new }
     {
-        list[0] = accepted(order);
+        let accepted = Event::Accepted {
+            side: order.side,
+            lots: order.lots,
+        };
+        list[0] = entry_for(order, accepted);
         let done = self.meet(policy, order, list);
         self.rest(order, done.left);
         done.written
@@ -164,7 +145,11 @@ impl Book {
         match self.refusal(order) {
             None => self.trade(policy, order, list),
             Some(reason) => {
-                list[0] = turned_down(order, reason);
+                let turned_down = Event::OrderTurnedDown {
+                    side: order.side,
+                    reason,
+                };
+                list[0] = entry_for(order, turned_down);
                 1
             }
         }

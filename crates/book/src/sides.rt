@@ -9,6 +9,7 @@ ghost use Rattle.market.specs.Put.{joins, out_of_levels};
 ghost use Rattle.side.specs.Levels.{side_of, levels_of};
 ghost use Rattle.side.specs.Meeting.{Meets};
 ghost use Rattle.side.specs.Rank.{in_range};
+ghost use Rattle.side.specs.Shape.{Shaped};
 ghost use Rattle.book.specs.Place.{held, place_of};
 ghost use Rattle.book.specs.Step.{Placed, Together};
 
@@ -35,6 +36,7 @@ pub(crate) fn meet<P: Policy>(
     requires sound { Sound by_order_id places.old }
     requires long { 2049 ≤ length list.old }
     ensures meets { Meets (P.Policy.split policy.now) (order_figures order.now) (levels_of theirs.old) (levels_of theirs.new) list.old list.new 1 result }
+    ensures shaped { Shaped (opposite order.now.side) (levels_of theirs.old) }
     ensures together { Together (opposite order.now.side) (levels_of theirs.old) (levels_of theirs.new) places.old.nodes places.new.nodes }
     ensures side { side_of theirs.new ≡ side_of theirs.old }
     ensures room { places.new.capacity ≡ places.old.capacity }

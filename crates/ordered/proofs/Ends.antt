@@ -35,7 +35,7 @@ module _ {K V : Type 0} (order : K → K → Ordering) (total : Total order) whe
   here n ns = node_here order n ns n.key (eq_itself order total n.key)
 
   -- a key that stands among those above is above
-  above_node : (low : K) (ns : List (Node K V)) (key : K) → all_above order low ns ≡ true → is_some (node_with order ns key) ≡ true → order low key ≡ Less
+  pub above_node : (low : K) (ns : List (Node K V)) (key : K) → all_above order low ns ≡ true → is_some (node_with order ns key) ≡ true → order low key ≡ Less
   above_node low [] key t there = absurd (false≢true (sym (ap is_some (node_none order key)) ∙ there))
   above_node low (n ∷ ns) key t there =
       let p = above_parts order low n ns t in

@@ -45,7 +45,7 @@ module _ {K V : Type 0} (order : K → K → Ordering) where
   ascending_value_set (n ∷ ns) zero w = refl
   ascending_value_set (n ∷ ns) (suc i) w = rw (above_value_set n.key ns i w, ascending_value_set ns i w) refl
 
-  length_value_set : (ns : List (Node K V)) (i : ℕ) (w : V) → length (value_set ns i w) ≡ length ns
+  pub length_value_set : (ns : List (Node K V)) (i : ℕ) (w : V) → length (value_set ns i w) ≡ length ns
   unfolding value_set
   length_value_set [] i w = refl
   length_value_set (n ∷ ns) zero w = refl

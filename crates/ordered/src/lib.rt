@@ -21,5 +21,3 @@ pub use laws::laws_hold;
 pub use node::Node;
 pub use ordered_map::OrderedMap;
 pub use refusal::InsertRefusal;
-pub use row::changes::{insert, remove};
-pub use row::search::search;

@@ -1,6 +1,6 @@
-// The steps below the map, over nodes that the caller lends.
+// The steps below the map, over its nodes.
 
 // where a key stands
-pub mod search;
+pub(crate) mod search;
 // a node put in or taken out
-pub mod changes;
+pub(crate) mod changes;

@@ -1,108 +1,107 @@
 -- An order is taken out. Assumes nothing.
-use Rattle.std.proofs.Common.{◌≡◌, ℕ, zero, suc, ◌+◌, ◌<◌, ◌≤◌, true, false, eqb, List, [], ◌∷◌, length, get_or, set, is_some, Some, None, Option, sym, refl, ap, ◌∙◌, subst, ⊎_elim, suc-le-suc, arith}
-use Rattle.std.specs.List.{remove}
-use Rattle.std.proofs.lemmas.Bool.{cases_Bool, cases_lt, cond-true, cond-false, eq-eqb, ne_eqb, true≢false, false≢true}
+use Rattle.std.proofs.Common.{◌≡◌, ℕ, suc, ◌+◌, ◌<◌, Bool, true, false, cond, eqb, List, [], ◌∷◌, length, Some, None, Option, sym, refl, ap, ◌∙◌, ⊎_elim, arith}
+use Rattle.std.specs.Ordering.{is_eq}
+use Rattle.std.proofs.lemmas.List.{nil_from_length}
+use Rattle.std.proofs.lemmas.Bool.{and_from, cases_Bool, cond-true, cond-false, cond_both}
 use Rattle.ordered.specs.declared.node.Node.{Node}
 use Rattle.ordered.specs.declared.key.price.Price.{Price}
 use Rattle.ordered.specs.Order.{by_price}
-use Rattle.ordered.specs.Place.{At, Gap}
-use Rattle.ordered.specs.Row.{ascending}
-use Rattle.ordered.proofs.Ascends.{ascending_parts}
+use Rattle.ordered.specs.Row.{node_with, lookup, with_value, without}
+use Rattle.ordered.specs.Kept.{Kept, Sound, with_nodes}
+use Rattle.ordered.proofs.Ascends.{none_parts}
+use Rattle.ordered.proofs.Lookups.{length_without}
+use Rattle.ordered.proofs.Values.{length_value, sound_value}
 use Rattle.level.specs.declared.level.Level.{Level as Held}
 use Rattle.level.specs.Queue.{queue_of}
-use Rattle.fix.specs.declared.command.Side.{Side}
 use Rattle.market.specs.declared.resting.Resting.{Resting}
 use Rattle.market.specs.Market.{Level, is_of, in_queue, resting}
 use Rattle.market.specs.Put.{kept, out_of_queue}
-use Rattle.side.specs.Levels.{queue_at, out_at}
-use Rattle.side.specs.Rank.{in_range, priced}
-use Rattle.side.specs.Row.{seen_as, seen, standing}
-use Rattle.side.proofs.Ladder.{below_from, head_below, stands_range, standing_head, standing_tail}
-use Rattle.side.proofs.Prices.{turned_range}
+use Rattle.market.specs.Prices.{queue_at}
+use Rattle.side.specs.Queues.{out_at}
+use Rattle.side.specs.Row.{seen_as, seen, standing, InStep}
+use Rattle.side.proofs.First.{resting_kept, standing_kept}
+use Rattle.side.proofs.Found.{is_there, none_there, value_here, value_later}
+use Rattle.side.proofs.Ladder.{same_is, same_choice, stands_range, stands_some, standing_head, standing_tail}
 
 -- ---- no level at the price
 
-abbrev pub Nowhere : ℕ → List Level → Type 0
-Nowhere p ls = (j : ℕ) (d : Level) → j < length ls → (get_or ls j d).price ≡ p → ⊥
+pub queue_nowhere : (key : Price) (ns : List (Node Price Held)) → node_with by_price ns key ≡ None → queue_at key.0 (seen ns) ≡ []
+queue_nowhere key [] none = refl
+queue_nowhere key (x ∷ ns) none =
+    let parts = none_parts by_price x ns key none in
+    cond-false (eqb x.key.0 key.0) _ _ (sym (same_is x.key.0 key.0) ∙ parts.0) ∙ queue_nowhere key ns parts.1
 
-pub queue_nowhere : (p : ℕ) (ls : List Level) → Nowhere p ls → queue_at p ls ≡ []
-queue_nowhere p [] h = refl
-queue_nowhere p (l ∷ ls) h = cond-false (eqb l.price p) _ _ (ne_eqb _ _ (h 0 l (omega arith))) ∙ queue_nowhere p ls (λ j d w. h (suc j) d (suc-le-suc w))
-
-pub out_nowhere : (p member order : ℕ) (ls : List Level) → Nowhere p ls → out_at p member order ls ≡ ls
-out_nowhere p member order [] h = refl
-out_nowhere p member order (l ∷ ls) h = cond-false (eqb l.price p) _ _ (ne_eqb _ _ (h 0 l (omega arith))) ∙ ap (λ ys. l ∷ ys) (out_nowhere p member order ls (λ j d w. h (suc j) d (suc-le-suc w)))
-
-seen_ranks : (p : ℕ) (ns : List (Node Price Held)) → ((j : ℕ) (d : Node Price Held) → j < length ns → (get_or ns j d).key.0 ≡ p → ⊥) → Nowhere p (seen ns)
-seen_ranks p [] h j d w e = omega arith
-seen_ranks p (x ∷ ns) h zero d w e = h 0 x (omega arith) e
-seen_ranks p (x ∷ ns) h (suc j) d w e = seen_ranks p ns (λ k n v. h (suc k) n (suc-le-suc v)) j d (omega arith) e
-
-pub gap_nowhere : (p : Price) (ns : List (Node Price Held)) (i : ℕ) → Gap by_price ns p i → Nowhere p.0 (seen ns)
-gap_nowhere p ns i s = seen_ranks p.0 ns (λ j d w e. ⊎_elim
-    (λ (lt : j < i). omega (arith, below_from (get_or ns j d).key.0 p.0 (s.below j d lt)))
-    (λ (ge : i ≤ j). omega (arith, below_from p.0 (get_or ns j d).key.0 (s.above j d ge w)))
-    (cases_lt j i))
-
--- no level has a price out of range
-pub outside_nowhere : (s : Side) (p : ℕ) (ns : List (Node Price Held)) → standing ns ≡ true → in_range p ≡ false → Nowhere p (priced s (seen ns))
-outside_nowhere s p [] t out j d w e = omega arith
-outside_nowhere s p (x ∷ ns) t out zero d w e = true≢false (sym (ap in_range (sym e) ∙ turned_range s x.key.0 (stands_range x (standing_head x ns t))) ∙ out)
-outside_nowhere s p (x ∷ ns) t out (suc j) d w e = outside_nowhere s p ns (standing_tail x ns t) out j d (omega arith) e
+pub out_nowhere : (key : Price) (member order : ℕ) (ns : List (Node Price Held)) → node_with by_price ns key ≡ None → out_at key.0 member order (seen ns) ≡ seen ns
+out_nowhere key member order [] none = refl
+out_nowhere key member order (x ∷ ns) none =
+    let parts = none_parts by_price x ns key none in
+    cond-false (eqb x.key.0 key.0) _ _ (sym (same_is x.key.0 key.0) ∙ parts.0) ∙ ap (λ ys. seen_as x ∷ ys) (out_nowhere key member order ns parts.1)
 
 -- ---- a level at the price
 
-pub queue_found : (p : Price) (ns : List (Node Price Held)) (i : ℕ) (d : Node Price Held) → ascending by_price ns ≡ true → At by_price ns p i → queue_at p.0 (seen ns) ≡ queue_of (get_or ns i d).value
-queue_found p [] i d up a = absurd (omega (arith, a.within))
-queue_found p (x ∷ ns) zero d up a = cond-true (eqb x.key.0 p.0) _ _ (eq-eqb _ _ (ap (λ q. q.0) (a.is x)))
-queue_found p (x ∷ ns) (suc i) d up a =
-    let within : i < length ns = omega (arith, a.within) in
-    let lt : x.key.0 < p.0 = subst (λ q. x.key.0 < q.0) (a.is x) (head_below x ns up i x within) in
-    cond-false (eqb x.key.0 p.0) _ _ (ne_eqb _ _ (λ e. omega arith)) ∙ queue_found p ns i d (ascending_parts by_price x ns up).1 (record { within = within; is = a.is })
+pub queue_found : (key : Price) (v : Held) (ns : List (Node Price Held)) → Some v ≡ lookup by_price ns key → queue_at key.0 (seen ns) ≡ queue_of v
+queue_found key v [] e = absurd (none_there key v e)
+queue_found key v (x ∷ ns) e =
+    sym (same_choice (λ q. q) (is_eq (by_price x.key key)) (eqb x.key.0 key.0) (queue_of v) (queue_of v) _ _ (same_is x.key.0 key.0)
+    (λ t. ap queue_of (value_here x ns key v t e))
+    (λ f. sym (queue_found key v ns (value_later x ns key v f e)))
+    ) ∙ cond_same (is_eq (by_price x.key key))
+  where
+    cond_same : (b : Bool) → cond b (queue_of v) (queue_of v) ≡ queue_of v
+    cond_same true = refl
+    cond_same false = refl
 
 kept_some : (p : ℕ) (os : List Resting) (ls : List Level) → 0 < length os → kept p os ls ≡ record { price = p; queue = os } ∷ ls
 kept_some p [] ls h = absurd (omega arith)
 kept_some p (o ∷ os) ls h = refl
 
 -- the level stays
-pub seen_left : (member order : ℕ) (m : Node Price Held) (ns : List (Node Price Held)) (i : ℕ) → ascending by_price ns ≡ true → At by_price ns m.key i → 0 < length (queue_of m.value) → ((d : Node Price Held) → queue_of m.value ≡ out_of_queue member order (queue_of (get_or ns i d).value)) → seen (set ns i m) ≡ out_at m.key.0 member order (seen ns)
-seen_left member order m [] i up a some q = absurd (omega (arith, a.within))
-seen_left member order m (x ∷ ns) zero up a some q =
-    let same : x.key.0 ≡ m.key.0 = ap (λ p. p.0) (a.is x) in
-    sym (kept_some m.key.0 (queue_of m.value) (seen ns) some)
-    ∙ ap (λ p. kept p (queue_of m.value) (seen ns)) (sym same)
-    ∙ ap (λ os. kept x.key.0 os (seen ns)) (q x)
-    ∙ sym (cond-true (eqb x.key.0 m.key.0) _ _ (eq-eqb _ _ same))
-seen_left member order m (x ∷ ns) (suc i) up a some q =
-    let within : i < length ns = omega (arith, a.within) in
-    let lt : x.key.0 < m.key.0 = subst (λ p. x.key.0 < p.0) (a.is x) (head_below x ns up i x within) in
-    ap (λ ys. seen_as x ∷ ys) (seen_left member order m ns i (ascending_parts by_price x ns up).1 (record { within = within; is = a.is }) some q)
-    ∙ sym (cond-false (eqb x.key.0 m.key.0) _ _ (ne_eqb _ _ (λ e. omega arith)))
+pub seen_left : (member order : ℕ) (key : Price) (v w : Held) (ns : List (Node Price Held)) → Some v ≡ lookup by_price ns key → 0 < length (queue_of w) → queue_of w ≡ out_of_queue member order (queue_of v) → seen (with_value by_price ns key w) ≡ out_at key.0 member order (seen ns)
+unfolding with_value
+seen_left member order key v w [] e some q = refl
+seen_left member order key v w (x ∷ ns) e some q =
+    same_choice seen (is_eq (by_price x.key key)) (eqb x.key.0 key.0) (record { key = x.key; value = w } ∷ ns) (x ∷ with_value by_price ns key w) _ _ (same_is x.key.0 key.0)
+    (λ t. sym (kept_some x.key.0 (queue_of w) (seen ns) some) ∙ ap (λ os. kept x.key.0 os (seen ns)) (q ∙ ap (λ (l : Held). out_of_queue member order (queue_of l)) (value_here x ns key v t e)))
+    (λ f. ap (λ ys. seen_as x ∷ ys) (seen_left member order key v w ns (value_later x ns key v f e) some q))
 
 -- the level goes
-pub seen_gone : (member order : ℕ) (p : Price) (ns : List (Node Price Held)) (i : ℕ) → ascending by_price ns ≡ true → At by_price ns p i → ((d : Node Price Held) → out_of_queue member order (queue_of (get_or ns i d).value) ≡ []) → seen (remove ns i) ≡ out_at p.0 member order (seen ns)
-seen_gone member order p [] i up a q = absurd (omega (arith, a.within))
-seen_gone member order p (x ∷ ns) zero up a q =
-    let same : x.key.0 ≡ p.0 = ap (λ q. q.0) (a.is x) in
-    ap (λ os. kept x.key.0 os (seen ns)) (sym (q x)) ∙ sym (cond-true (eqb x.key.0 p.0) _ _ (eq-eqb _ _ same))
-seen_gone member order p (x ∷ ns) (suc i) up a q =
-    let within : i < length ns = omega (arith, a.within) in
-    let lt : x.key.0 < p.0 = subst (λ r. x.key.0 < r.0) (a.is x) (head_below x ns up i x within) in
-    ap (λ ys. seen_as x ∷ ys) (seen_gone member order p ns i (ascending_parts by_price x ns up).1 (record { within = within; is = a.is }) q)
-    ∙ sym (cond-false (eqb x.key.0 p.0) _ _ (ne_eqb _ _ (λ e. omega arith)))
+seen_without : (member order : ℕ) (key : Price) (v : Held) (ns : List (Node Price Held)) → Some v ≡ lookup by_price ns key → out_of_queue member order (queue_of v) ≡ [] → seen (without by_price ns key) ≡ out_at key.0 member order (seen ns)
+unfolding without
+seen_without member order key v [] e q = refl
+seen_without member order key v (x ∷ ns) e q =
+    same_choice seen (is_eq (by_price x.key key)) (eqb x.key.0 key.0) ns (x ∷ without by_price ns key) _ _ (same_is x.key.0 key.0)
+    (λ t. ap (λ os. kept x.key.0 os (seen ns)) (sym q ∙ ap (λ (l : Held). out_of_queue member order (queue_of l)) (value_here x ns key v t e)))
+    (λ f. ap (λ ys. seen_as x ∷ ys) (seen_without member order key v ns (value_later x ns key v f e) q))
+
+without_written : (key : Price) (w : Held) (ns : List (Node Price Held)) → without by_price (with_value by_price ns key w) key ≡ without by_price ns key
+unfolding with_value without
+without_written key w [] = refl
+without_written key w (x ∷ ns) =
+    let b = is_eq (by_price x.key key) in
+    cond_both b (record { key = x.key; value = w } ∷ ns) (x ∷ with_value by_price ns key w) (λ (ms : List (Node Price Held)). without by_price ms key ≡ without by_price (x ∷ ns) key)
+    (λ t. cond-true b _ _ t ∙ sym (cond-true b _ _ t))
+    (λ f. cond-false b _ _ f ∙ ap (λ ms. x ∷ ms) (without_written key w ns) ∙ sym (cond-false b _ _ f))
+
+pub seen_gone : (member order : ℕ) (key : Price) (v w : Held) (ns : List (Node Price Held)) → Some v ≡ lookup by_price ns key → queue_of w ≡ out_of_queue member order (queue_of v) → length (queue_of w) ≡ 0 → seen (without by_price (with_value by_price ns key w) key) ≡ out_at key.0 member order (seen ns)
+seen_gone member order key v w ns e q none = ap seen (without_written key w ns) ∙ seen_without member order key v ns e (sym q ∙ nil_from_length (queue_of w) none)
+
+pub standing_out : (p member order : ℕ) (ls : List Level) → standing ls ≡ true → standing (out_at p member order ls) ≡ true
+standing_out p member order [] t = refl
+standing_out p member order (l ∷ ls) t =
+    let here = standing_head l ls t in
+    let rest = standing_tail l ls t in
+    cond_both (eqb l.price p) (kept l.price (out_of_queue member order l.queue) ls) (l ∷ out_at p member order ls) (λ (ms : List Level). standing ms ≡ true)
+    (λ _. standing_kept l.price (out_of_queue member order l.queue) ls (stands_range l here) rest)
+    (λ _. and_from _ _ here (standing_out p member order ls rest))
 
 -- ---- how many rest
 
-resting_kept : (p : ℕ) (q : List Resting) (ls : List Level) → resting (kept p q ls) ≡ length q + resting ls
-resting_kept p [] ls = omega arith
-resting_kept p (o ∷ os) ls = refl
-
 -- what a queue is short of after an order was looked for
-abbrev taken_count : {A : Type 0} → Option A → ℕ
+abbrev pub taken_count : {A : Type 0} → Option A → ℕ
 taken_count (Some x) = 1
 taken_count None = 0
 
-queue_out : (member order : ℕ) (q : List Resting) → length (out_of_queue member order q) + taken_count (in_queue member order q) ≡ length q
+pub queue_out : (member order : ℕ) (q : List Resting) → length (out_of_queue member order q) + taken_count (in_queue member order q) ≡ length q
 queue_out member order [] = refl
 queue_out member order (r ∷ rs) = ⊎_elim
     (λ (e : is_of member order r ≡ true).
@@ -115,7 +114,7 @@ queue_out member order (r ∷ rs) = ⊎_elim
     omega (arith, queue_out member order rs))
     (cases_Bool (is_of member order r))
 
-resting_out : (p member order : ℕ) (ls : List Level) → resting (out_at p member order ls) + taken_count (in_queue member order (queue_at p ls)) ≡ resting ls
+pub resting_out : (p member order : ℕ) (ls : List Level) → resting (out_at p member order ls) + taken_count (in_queue member order (queue_at p ls)) ≡ resting ls
 resting_out p member order [] = refl
 resting_out p member order (l ∷ ls) = ⊎_elim
     (λ (e : eqb l.price p ≡ true).
@@ -128,16 +127,42 @@ resting_out p member order (l ∷ ls) = ⊎_elim
     omega (arith, resting_out p member order ls))
     (cases_Bool (eqb l.price p))
 
-count_some : {A : Type 0} (o : Option A) → is_some o ≡ true → taken_count o ≡ 1
-count_some (Some x) e = refl
-count_some None e = absurd (false≢true e)
+pub queue_some : (key : Price) (v : Held) (ns : List (Node Price Held)) → standing (seen ns) ≡ true → Some v ≡ lookup by_price ns key → 0 < length (queue_of v)
+queue_some key v [] t e = absurd (none_there key v e)
+queue_some key v (x ∷ ns) t e = ⊎_elim
+    (λ (h : is_eq (by_price x.key key) ≡ true). let same = ap (λ (l : Held). length (queue_of l)) (value_here x ns key v h e) in omega (arith, stands_some (seen_as x) (standing_head (seen_as x) (seen ns) t)))
+    (λ (f : is_eq (by_price x.key key) ≡ false). queue_some key v ns (standing_tail (seen_as x) (seen ns) t) (value_later x ns key v f e))
+    (cases_Bool (is_eq (by_price x.key key)))
 
-count_none : {A : Type 0} (o : Option A) → is_some o ≡ false → taken_count o ≡ 0
-count_none (Some x) e = absurd (true≢false e)
-count_none None e = refl
+-- ---- levels, spare ones and the count after an order was looked for in the level v at a rank
 
-pub resting_less : (p member order : ℕ) (ls : List Level) → is_some (in_queue member order (queue_at p ls)) ≡ true → resting (out_at p member order ls) + 1 ≡ resting ls
-resting_less p member order ls e = omega (arith, resting_out p member order ls, count_some (in_queue member order (queue_at p ls)) e)
+module _ (held : Kept Price Held) (spares memory orders : ℕ) (s : InStep held spares memory orders) (member order : ℕ) (key : Price) (v w : Held)
+    (e : Some v ≡ lookup by_price held.nodes key) (q : queue_of w ≡ out_of_queue member order (queue_of v)) where
+  pub counted_out : (t : Option Resting) → t ≡ in_queue member order (queue_of v) → resting (out_at key.0 member order (seen held.nodes)) + taken_count t ≡ orders
+  counted_out t taken = omega (arith, s.counted, resting_out key.0 member order (seen held.nodes), ap (λ os. taken_count (in_queue member order os)) (queue_found key v held.nodes e), ap taken_count taken)
 
-pub resting_same : (p member order : ℕ) (ls : List Level) → is_some (in_queue member order (queue_at p ls)) ≡ false → resting (out_at p member order ls) ≡ resting ls
-resting_same p member order ls e = omega (arith, resting_out p member order ls, count_none (in_queue member order (queue_at p ls)) e)
+  pub left_in_step : (orders' : ℕ) (t : Option Resting) → t ≡ in_queue member order (queue_of v) → orders' + taken_count t ≡ orders → 0 < length (queue_of w) → InStep (with_nodes held (with_value by_price held.nodes key w)) spares memory orders'
+  left_in_step orders' t taken less some =
+      let shows = seen_left member order key v w held.nodes e some q in
+      record {
+        sound = sound_value by_price held key w s.sound;
+        capacity = s.capacity;
+        stand = ap standing shows ∙ standing_out key.0 member order (seen held.nodes) s.stand;
+        together = omega (arith, s.together, length_value by_price held.nodes key w);
+        reserved = s.reserved;
+        counted = omega (arith, ap resting shows, counted_out t taken);
+        few = omega (arith, s.few);
+      }
+
+  pub gone_in_step : (held' : Kept Price Held) (spares' memory' orders' : ℕ) (t : Option Resting) → t ≡ in_queue member order (queue_of v) → orders' + taken_count t ≡ orders → length (queue_of w) ≡ 0 → Sound by_price held' → held'.capacity ≡ held.capacity → held'.nodes ≡ without by_price (with_value by_price held.nodes key w) key → spares' ≡ spares + 1 → memory' ≡ memory → InStep held' spares' memory' orders'
+  gone_in_step held' spares' memory' orders' t taken less none sound cap nodes more same =
+      let shows = ap seen nodes ∙ seen_gone member order key v w held.nodes e q none in
+      record {
+        sound = sound;
+        capacity = cap ∙ s.capacity;
+        stand = ap standing shows ∙ standing_out key.0 member order (seen held.nodes) s.stand;
+        together = omega (arith, s.together, ap length (nodes ∙ without_written key w held.nodes), length_without by_price held.nodes key (is_there held.nodes key v e));
+        reserved = omega (arith, s.reserved);
+        counted = omega (arith, ap resting shows, counted_out t taken);
+        few = omega (arith, s.few);
+      }

@@ -1,10 +1,5 @@
 -- An incoming order on its way through the levels of the other side, which are held by rank.
-use Rattle.std.specs.Prelude.{◌≡◌, ℕ, ◌+◌, ◌*◌, ◌<◌, ◌≤◌, Bool, true, false, List, [], ◌∷◌, ◌++◌, length, take, drop, nat_le}
-use Rattle.ordered.specs.Order.{by_price}
-use Rattle.ordered.specs.Row.{ascending}
-use Rattle.ordered.specs.declared.node.Node.{Node}
-use Rattle.ordered.specs.declared.key.price.Price.{Price}
-use Rattle.level.specs.declared.level.Level.{Level as Held}
+use Rattle.std.specs.Prelude.{◌≡◌, ℕ, ◌+◌, ◌*◌, ◌<◌, ◌≤◌, Bool, false, List, [], ◌∷◌, ◌++◌, length, take, drop, nat_le}
 use Rattle.level.specs.declared.trade.Progress.{Progress}
 use Rattle.fix.specs.Command.{NewOrder}
 use Rattle.fix.specs.declared.command.Side.{Side}
@@ -13,7 +8,6 @@ use Rattle.market.specs.declared.resting.Resting.{Resting}
 use Rattle.market.specs.Market.{Level, resting, lots_of}
 use Rattle.market.specs.Put.{meets, kept, after_fills}
 use Rattle.side.specs.Rank.{priced}
-use Rattle.side.specs.Row.{seen, standing}
 
 -- the best level's queue and rank
 abbrev pub first_queue : List Level → List Resting
@@ -44,14 +38,12 @@ pub record Meets (split : ℕ → List ℕ → List ℕ) (o : NewOrder) (ls ls' 
   pub upto : after.written ≤ length list'
 
 -- where it stands on its way: what it comes to from here is what it came to from the start
-pub record Meeting (split : ℕ → List ℕ → List ℕ) (o : NewOrder) (side : Side) (start : ℕ) (ns ns' : List (Node Price Held)) (list list' : List Entry) (left written : ℕ) : Type 0 where
-  pub ascends : ascending by_price ns' ≡ true
-  pub stand : standing ns' ≡ true
-  pub same_left : (meets split o o.lots (priced side (seen ns))).left ≡ (meets split o left (priced side (seen ns'))).left
-  pub same_levels : (meets split o o.lots (priced side (seen ns))).levels ≡ (meets split o left (priced side (seen ns'))).levels
-  pub front : take written list' ++ (meets split o left (priced side (seen ns'))).entries ≡ take start list ++ (meets split o o.lots (priced side (seen ns))).entries
+pub record Meeting (split : ℕ → List ℕ → List ℕ) (o : NewOrder) (side : Side) (start : ℕ) (ls ls' : List Level) (list list' : List Entry) (left written : ℕ) : Type 0 where
+  pub same_left : (meets split o o.lots (priced side ls)).left ≡ (meets split o left (priced side ls')).left
+  pub same_levels : (meets split o o.lots (priced side ls)).levels ≡ (meets split o left (priced side ls')).levels
+  pub front : take written list' ++ (meets split o left (priced side ls')).entries ≡ take start list ++ (meets split o o.lots (priced side ls)).entries
   pub back : drop written list' ≡ drop written list
   pub from : start ≤ written
   pub upto : written ≤ length list'
-  pub room : 0 < left → written + 2 * resting (seen ns') ≤ length list'
+  pub room : 0 < left → written + 2 * resting ls' ≤ length list'
   pub most : left ≤ o.lots

@@ -5,14 +5,12 @@
 mod book_side;
 // what it does
 mod methods;
-// a level that opens or closes, over lent rows
-mod rows;
-// levels that an incoming order meets
-mod meet;
+// its levels, with those that are spare
+mod levels;
 // prices in the order in which they are met
 mod rank;
 // why a side is left as it was
 mod refusal;
 
-pub use book_side::BookSide;
+pub use book_side::{BookSide, LevelAt};
 pub use refusal::{JoinRefusal, MeetRefusal};

@@ -6,20 +6,23 @@ ghost use Rattle.std.specs.List.{slice_get};
 ghost use Rattle.fix.specs.Command.{order_figures};
 ghost use Rattle.market.specs.Market.{Level as PriceLevel, resting, in_queue, best as best_of, lots_of, total};
 ghost use Rattle.market.specs.Put.{joins};
-ghost use Rattle.side.specs.Levels.{side_of, levels_of, queue_at, out_at};
+ghost use Rattle.side.specs.Levels.{side_of, levels_of};
+ghost use Rattle.side.specs.declared.book_side.LevelAt.{LevelAt};
+ghost use Rattle.market.specs.Prices.{queue_at};
+ghost use Rattle.side.specs.Queues.{out_at};
 ghost use Rattle.side.specs.Meeting.{Meets};
+ghost use Rattle.side.specs.Shape.{Shaped};
 ghost use Rattle.side.specs.Refusal.{join_answer, joining, meet_answer, meeting};
 
-use crate::book_side::BookSide;
-use crate::meet::meet;
+use crate::book_side::{BookSide, LevelAt};
+use crate::levels::Levels;
 use crate::rank::{in_range, turn};
 use crate::refusal::{JoinRefusal, MeetRefusal};
-use crate::rows::{clear, join, take_out};
 use allocation::{MOST_LOTS, Policy};
 use fix::{NewOrder, Side};
-use level::{Level, MOST_ORDERS, Progress, Scratch};
+use level::{MOST_ORDERS, Progress, Scratch};
 use market::{Entry, Resting, is_same};
-use ordered::{Node, Price};
+use ordered::Price;
 use std::alloc::{AllocError, Global};
 
 impl BookSide {
@@ -27,32 +30,24 @@ impl BookSide {
     pub fn new(heap: Global, side: Side) -> Result<BookSide, AllocError>
         ensures made { IfOk result (λ b. (levels_of b ≡ []) × (side_of b ≡ side)) }
     {
-        let levels = Vec::with_capacity(heap, MOST_ORDERS)?;
-        let mut spare = Vec::with_capacity(heap, MOST_ORDERS)?;
-        for _ in 0..MOST_ORDERS {
-            spare.push_reserved(Level::new(heap)?);
-        }
-        Ok(BookSide {
-            side,
-            levels,
-            spare,
-            orders: 0,
-        })
+        let levels = Levels::new(heap)?;
+        Ok(BookSide { side, levels })
     }
 
     /// How many orders rest.
     pub fn len(&self) -> usize
         ensures value { result ≡ resting (levels_of self.now) }
         ensures few { result ≤ 1024 }
+        ensures shaped { Shaped (side_of self.now) (levels_of self.now) }
     {
-        self.orders
+        self.levels.orders()
     }
 
     /// The best price, or none where nothing rests.
     pub fn best(&self) -> Option<u32>
         ensures value { result ≡ best_of (levels_of self.now) }
     {
-        match self.levels.as_slice() {
+        match self.levels.nodes() {
             [] => None,
             [first, ..] => Some(turn(self.side, first.key.0)),
         }
@@ -70,12 +65,11 @@ impl BookSide {
         if order.lots == 0 || order.lots > MOST_LOTS {
             return Err(JoinRefusal::LotsOutOfRange);
         }
-        if self.orders == MOST_ORDERS {
+        if self.len() == MOST_ORDERS {
             return Err(JoinRefusal::Full);
         }
         let rank = Price(turn(self.side, price));
-        join(&mut self.levels, &mut self.spare, rank, order);
-        self.orders += 1;
+        self.levels.join(rank, order);
         Ok(())
     }
 
@@ -83,17 +77,11 @@ impl BookSide {
     pub fn take_out(&mut self, price: u32, member: u32, order: u32) -> Option<Resting>
         ensures value { result ≡ in_queue member order (queue_at price (levels_of self.old)) }
         ensures levels { levels_of self.new ≡ out_at price member order (levels_of self.old) }
+        ensures shaped { Shaped (side_of self.old) (levels_of self.old) }
         ensures side { side_of self.new ≡ side_of self.old }
     {
-        if !in_range(price) {
-            return None;
-        }
         let rank = Price(turn(self.side, price));
-        let taken = take_out(&mut self.levels, &mut self.spare, rank, member, order);
-        if taken.is_some() {
-            self.orders -= 1;
-        }
-        taken
+        self.levels.take_out(rank, member, order)
     }
 
     /// The incoming order meets the levels that cross it, best first, and the entries are written behind the first `start`. A refusal leaves the
@@ -108,6 +96,7 @@ impl BookSide {
     ) -> Result<Progress, MeetRefusal>
         ensures answers { meet_answer result ≡ meeting order.now.side (side_of self.old) start (length list.old) }
         ensures told { MatchResult result (λ after. Meets (P.Policy.split policy.now) (order_figures order.now) (levels_of self.old) (levels_of self.new) list.old list.new start after) (λ _. (levels_of self.new ≡ levels_of self.old) × (list.new ≡ list.old)) }
+        ensures shaped { IfOk result (λ _. Shaped (side_of self.old) (levels_of self.old)) }
         ensures side { side_of self.new ≡ side_of self.old }
     {
         if is_same(order.side, self.side) {
@@ -116,19 +105,10 @@ impl BookSide {
         if list.len() < 2 * MOST_ORDERS || list.len() - 2 * MOST_ORDERS < start {
             return Err(MeetRefusal::ListTooShort);
         }
-        let done = meet(
-            &mut self.levels,
-            &mut self.spare,
-            policy,
-            scratch,
-            self.side,
-            order,
-            start,
-            self.orders,
-            list,
-        );
-        self.orders = done.orders;
-        Ok(done.after)
+        Ok(
+            self.levels
+                .meet(policy, scratch, self.side, order, start, list),
+        )
     }
 
     /// Takes every order out.
@@ -136,47 +116,27 @@ impl BookSide {
         ensures levels { levels_of self.new ≡ [] }
         ensures side { side_of self.new ≡ side_of self.old }
     {
-        clear(&mut self.levels, &mut self.spare);
-        self.orders = 0;
+        self.levels.clear();
     }
 
     /// How many levels there are.
     pub fn levels(&self) -> usize
         ensures value { result ≡ length (levels_of self.now) }
     {
-        self.levels.len()
+        self.levels.nodes().len()
     }
 
-    /// The price of the level at a place, the best at 0.
-    pub fn price_at(&self, place: usize) -> Option<u32>
-        ensures value { result ≡ option_map (λ (l : PriceLevel). l.price) (slice_get (levels_of self.now) place) }
+    /// The level at a place, the best at 0.
+    pub fn level_at(&self, place: usize) -> Option<LevelAt<'_>>
+        ensures price { option_map (λ (l : LevelAt). l.price) result ≡ option_map (λ (l : PriceLevel). l.price) (slice_get (levels_of self.now) place) }
+        ensures queue { option_map (λ (l : LevelAt). l.queue.now) result ≡ option_map (λ (l : PriceLevel). l.queue) (slice_get (levels_of self.now) place) }
+        ensures lots { option_map (λ (l : LevelAt). l.lots) result ≡ option_map (λ (l : PriceLevel). total (lots_of l.queue)) (slice_get (levels_of self.now) place) }
     {
-        if place < self.levels.len() {
-            Some(turn(self.side, self.levels[place].key.0))
-        } else {
-            None
-        }
-    }
-
-    /// The queue of the level at a place, oldest first.
-    pub fn queue_at(&self, place: usize) -> Option<&[Resting]>
-        ensures value { option_map (λ x. x.now) result ≡ option_map (λ (l : PriceLevel). l.queue) (slice_get (levels_of self.now) place) }
-    {
-        if place < self.levels.len() {
-            Some(self.levels[place].value.queue())
-        } else {
-            None
-        }
-    }
-
-    /// The lots of the level at a place together.
-    pub fn lots_at(&self, place: usize) -> Option<u32>
-        ensures value { result ≡ option_map (λ (l : PriceLevel). total (lots_of l.queue)) (slice_get (levels_of self.now) place) }
-    {
-        if place < self.levels.len() {
-            Some(self.levels[place].value.lots())
-        } else {
-            None
-        }
+        let node = self.levels.nodes().get(place)?;
+        Some(LevelAt {
+            price: turn(self.side, node.key.0),
+            queue: node.value.queue(),
+            lots: node.value.lots(),
+        })
     }
 }

@@ -14,11 +14,10 @@ pub(crate) fn in_range(price: u32) -> bool
 
 /// The rank of a price, or the price of a rank.
 pub(crate) fn turn(side: Side, price: u32) -> u32
-    requires within { price ≤ 1000000 }
     ensures value { result ≡ turned side price }
 {
     match side {
-        Side::Buy => LARGEST_PRICE + 1 - price,
+        Side::Buy => (LARGEST_PRICE + 1).saturating_sub(price),
         Side::Sell => price,
     }
 }

@@ -1,5 +1,5 @@
 /// Why an order does not join a side.
-#[derive(Clone, Copy)]
+#[derive(Clone, Copy, PartialEq, Eq, Debug)]
 pub enum JoinRefusal {
     /// its price is 0 or over 999,999
     PriceOutOfRange,
@@ -10,7 +10,7 @@ pub enum JoinRefusal {
 }
 
 /// Why an incoming order does not meet a side.
-#[derive(Clone, Copy)]
+#[derive(Clone, Copy, PartialEq, Eq, Debug)]
 pub enum MeetRefusal {
     /// it is of the same side
     SameSide,

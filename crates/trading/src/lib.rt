@@ -7,7 +7,7 @@ mod entries;
 
 use crate::entries::{ENTRY_HEADER, EntryRow, LEVEL_HEADER, Totals};
 use allocation::Policy;
-use book::{Book, MOST_ENTRIES};
+use book::{Book, LevelAt, MOST_ENTRIES};
 use console::Feed;
 use fix::Side;
 use market::Entry;
@@ -57,16 +57,8 @@ fn trade_all<P: Policy>(
 
 fn print_side(rt: &HostRuntime, book: &Book, side: Side) -> anyhow::Result<()> {
     let number = side.number();
-    for place in 0..book.levels(side) {
-        let Some(price) = book.price_at(side, place) else {
-            break;
-        };
-        let Some(queue) = book.queue_at(side, place) else {
-            break;
-        };
-        let Some(lots) = book.lots_at(side, place) else {
-            break;
-        };
+    for level in (0..book.levels(side)).filter_map(|place| book.level_at(side, place)) {
+        let LevelAt { price, queue, lots } = level;
         let orders = queue.len();
         println!(rt; "{number}\t{price}\t{orders}\t{lots}")?;
     }

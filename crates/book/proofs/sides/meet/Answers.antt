@@ -1,13 +1,13 @@
-use Rattle.std.proofs.Common.{◌≡◌, ℕ, zero, suc, ◌-◌, ◌≤◌, List, [], ◌∷◌, ◌++◌, length, take, drop, ap, ◌∙◌, arith}
+use Rattle.std.proofs.Common.{◌≡◌, ℕ, zero, suc, ◌-◌, ◌≤◌, List, [], ◌∷◌, ◌++◌, length, take, drop, ap, ◌∙◌, subst, arith}
 use Rattle.fix.specs.Command.{order_figures}
 use Rattle.std.specs.List.{AllZip}
 use Rattle.level.proofs.Queues.{fits_from}
 use Rattle.market.specs.Market.{Level, other, resting}
 use Rattle.market.specs.Put.{Met, meets}
 use Rattle.side.specs.Levels.{levels_of}
+use Rattle.side.specs.Shape.{Shaped}
 use Rattle.book.specs.Place.{held, place_of, told, forgotten}
 use Rattle.book.proofs.Passed.{passed}
-use Rattle.book.proofs.Sound.{levels_tradable}
 use Rattle.book.proofs.sides.meet.Goals as goal
 
 -- the entries behind the first are those that were written
@@ -30,10 +30,11 @@ returns g c =
     let slice : take (c.in-Ok.after.written - 1) (drop 1 c.meet.new.list) ≡ m.entries = behind c.args.list.now c.meet.new.list m.entries c.in-Ok.after.written met.front (omega (arith, c.requires.long)) met.from in
     let nodes : c.forget.new.places.nodes ≡ forgotten (other o.side) m.entries ns = c.forget.ensures.places ∙ ap (λ s. forgotten s (take (c.in-Ok.after.written - 1) (drop 1 c.meet.new.list)) ns) c.other.ensures.value ∙ ap (λ es. forgotten (other o.side) es ns) slice in
     let fitting : (q : ℕ) (ls : List ℕ) → AllZip ◌≤◌ (split q ls) ls = λ q ls. fits_from (split q ls) ls (g.met.P.Policy.as_many c.args.policy.now q ls) (g.met.P.Policy.within c.args.policy.now q ls) in
-    let p = passed (order_figures o) split fitting (λ k price. 0) o.lots (levels_of b) ns (levels_tradable b) c.requires.sound.ascends (λ k price. omega (arith, c.requires.placed k price)) in
+    let p = passed (order_figures o) split fitting (λ k price. 0) o.lots (levels_of b) ns c.in-Ok.ensures.shaped.lots c.requires.sound.ascends (λ k price. omega (arith, c.requires.placed k price)) in
     let levels : levels_of c.meet.new.self ≡ m.levels = met.levels in
     record {
       meets = met;
+      shaped = subst (λ s. Shaped s (levels_of b)) c.requires.side c.in-Ok.ensures.shaped;
       together = record {
         placed = λ k price. omega (arith, p.placed k price, ap (λ (xs : List Level). held k price xs) levels, ap (λ ms. told (place_of ms k) (other o.side) price) nodes);
         others = λ k price. ap (λ ms. told (place_of ms k) (other (other o.side)) price) nodes ∙ p.others k price;

@@ -1,13 +1,10 @@
-use Rattle.std.proofs.Common.{◌≡◌, ℕ, ◌<◌, ◌≤◌, min, true, not, ◌&&◌, leb, List, ◌∷◌, ◌++◌, length, take, set, sym, ap, ◌∙◌, subst, arith}
+use Rattle.std.proofs.Common.{◌≡◌, ℕ, ◌<◌, ◌≤◌, min, not, ◌&&◌, leb, List, ◌∷◌, ◌++◌, length, take, set, sym, ap, ◌∙◌, subst, arith}
 use Rattle.std.proofs.lemmas.List.{drop-set-lt}
 use Rattle.fix.specs.Command.{order_figures}
-use Rattle.fix.specs.declared.command.Side.{Side}
-use Rattle.fix.specs.declared.command.Side.TheVariants.{Buy, Sell}
 use Rattle.std.specs.List.{AllZip}
 use Rattle.level.proofs.Queues.{fits_from, total_sum}
 use Rattle.market.specs.Market.{Market, all_resting, capacity, known, best_crosses, levels, with_levels, other, total}
 use Rattle.market.specs.Put.{meets, rests}
-use Rattle.side.specs.Meeting.{first_queue}
 use Rattle.book.specs.declared.book.Book.{Book}
 use Rattle.book.specs.Market.{market_of}
 use Rattle.book.proofs.Sound.{first_some}
@@ -26,10 +23,6 @@ module _ (g : given.Over) (p : g.row.P.Denot) where
 few_of : (b : Book) → all_resting (market_of b) ≤ capacity
 few_of b = omega (arith, b.counted, b.room, b.sound.inside)
 
-some_of : (b : Book) (of s : Side) (price : ℕ) → best_crosses of price (levels s (market_of b)) ≡ true → 0 < length (first_queue (levels s (market_of b)))
-some_of b of Buy price e = first_some of price b.buys e
-some_of b of Sell price e = first_some of price b.sells e
-
 pub rest-requires : goal.rest-requires
 rest-requires g c =
     let b = c.args.self.now in
@@ -41,7 +34,7 @@ rest-requires g c =
     let free = open_parts (known o.member o.order m) (leb capacity (all_resting m) && not (best_crosses o.side o.price (levels (other o.side) m))) c.requires.admitted in
     record {
       new = ap (known o.member o.order) e.market ∙ known_met split o m free.0;
-      short = λ h. subst (λ n. n < capacity) (sym (ap all_resting e.market)) (room_left split o m (fitting g p) (full g p) (few_of b) free.1 (some_of b o.side (other o.side) o.price) (omega (arith, h, e.left)));
+      short = λ h. subst (λ n. n < capacity) (sym (ap all_resting e.market)) (room_left split o m (fitting g p) (full g p) (few_of b) free.1 (first_some o.side o.price (levels (other o.side) m) e.shaped.stand) (omega (arith, h, e.left)));
       most = omega (arith, e.left, meets_left split o o.lots (levels (other o.side) m), c.args.order.now.lots_within.1);
     }
 
@@ -53,7 +46,7 @@ returns g c =
     let split = g.P.Policy.split c.args.policy.now in
     let e = c.meet-done.ensures in
     let l = c.args.list.now in
-    let x = c.accepted.result in
+    let x = c.entry_for.result in
     let some : 0 < length l = omega (arith, c.requires.long) in
     let met = meets split o o.lots (levels (other o.side) m) in
     let m₁ : Market = with_levels (other o.side) met.levels m in
@@ -65,7 +58,7 @@ returns g c =
           ∙ ap (λ (y : Market). with_levels o.side (rests o c.meet-done.result.left (levels o.side y)) y) e.market
           ∙ ap (λ n. with_levels o.side (rests o n (levels o.side m₁)) m₁) e.left
           ∙ ap (λ ys. with_levels o.side (rests o met.left ys) m₁) (levels_other o.side met.levels m);
-      front = front ∙ ap (λ y. y ∷ met.entries) c.accepted.ensures.value;
+      front = front ∙ ap (λ y. y ∷ met.entries) c.entry_for.ensures.value;
       back = e.back ∙ drop-set-lt c.meet-done.result.written l 0 x (omega (arith, count));
       upto = e.upto;
     }
