@@ -12,6 +12,7 @@ use Rattle.market.proofs.Levels.{better_differs}
 use Rattle.side.specs.Queues.{out_at}
 use Rattle.side.specs.Row.{standing}
 use Rattle.side.specs.Shape.{Shaped}
+use Rattle.side.proofs.Removals.{kept_some}
 use Rattle.side.proofs.Ladder.{stands_some, standing_head, standing_tail}
 use Rattle.std.specs.List.{AllByRecursion}
 use Rattle.book.specs.Place.{occurs, held}
@@ -63,10 +64,6 @@ in_some k (r ∷ q) h = by (in_some k q)
         let x = more (omega arith) in
         (x.0, cond-false (is_of k.member k.order r) _ _ f ∙ x.1))
         (cases_Bool (is_of k.member k.order r))
-
-pub kept_some : (price : ℕ) (q : List Resting) (ls : List Level) → 0 < length q → kept price q ls ≡ record { price = price; queue = q } ∷ ls
-kept_some price [] ls h = absurd (omega arith)
-kept_some price (r ∷ q) ls h = refl
 
 -- ---- an order that rests at one price alone
 

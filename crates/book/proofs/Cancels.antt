@@ -12,7 +12,7 @@ use Rattle.market.specs.declared.resting.Resting.{Resting}
 use Rattle.market.specs.Market.{Level, Market, is_of, in_levels, resting}
 use Rattle.market.specs.Put.{kept, out_of_queue, out_of_levels, cancelled, put_cancel, put_cancel_at}
 use Rattle.market.specs.Tally.{same_side}
-use Rattle.side.proofs.First.{resting_kept}
+use Rattle.market.proofs.Levels.{resting_kept}
 use Rattle.book.specs.declared.place.Place.{Place}
 use Rattle.book.specs.Place.{occurs, held, place_of, told}
 use Rattle.book.proofs.Places.{is_id, not_id, place_without_same, place_without_other, told_most}

@@ -11,6 +11,7 @@ use Rattle.std.specs.List.{AllZip}
 use Rattle.market.specs.declared.entry.Entry.{Entry}
 use Rattle.market.specs.declared.resting.Resting.{Resting}
 use Rattle.market.specs.Market.{Level, lots_of, total, crosses, other, resting}
+use Rattle.market.proofs.Levels.{resting_kept}
 use Rattle.market.specs.Put.{Met, meets, after_fills, kept, of_fills}
 use Rattle.book.specs.declared.place.Place.{Place}
 use Rattle.book.specs.Place.{occurs, held, place_of, told, forgotten}
@@ -26,10 +27,6 @@ held_kept k p price [] ls = none (eqb price p)
     none true = omega arith
     none false = omega arith
 held_kept k p price (r ∷ q) ls = refl
-
-pub resting_kept : (price : ℕ) (q : List Resting) (ls : List Level) → resting (kept price q ls) ≡ length q + resting ls
-resting_kept price [] ls = omega arith
-resting_kept price (r ∷ q) ls = refl
 
 told_present : (o : Option Place) (side : Side) (price : ℕ) → told o side price ≤ present o
 told_present None side price = omega arith

@@ -1,5 +1,5 @@
 -- Places of orders: how often an order stands in queues and levels, and what a map of places tells of it.
-use Rattle.std.proofs.Common.{◌≡◌, ℕ, ◌+◌, ◌<◌, ◌≤◌, Bool, true, false, cond, ◌&&◌, eqb, List, length, is_some, Some, None, Option, sym, refl, ap, ◌∙◌, arith}
+use Rattle.std.proofs.Common.{◌≡◌, ℕ, ◌+◌, ◌≤◌, Bool, true, false, cond, ◌&&◌, eqb, List, length, is_some, Some, None, Option, sym, refl, ap, ◌∙◌, arith}
 use Rattle.std.specs.Option.{option_map}
 use Rattle.std.proofs.lemmas.Bool.{and_parts, and_from, eqb-true, eq-eqb, true≢false}
 use Rattle.fix.specs.declared.command.Side.{Side}
@@ -75,10 +75,6 @@ pub same_itself : (a : Side) → same_side a a ≡ true
 same_itself Buy = refl
 same_itself Sell = refl
 
-pub same_other : (a : Side) → same_side (other a) a ≡ false
-same_other Buy = refl
-same_other Sell = refl
-
 pub other_same : (a : Side) → same_side a (other a) ≡ false
 other_same Buy = refl
 other_same Sell = refl
@@ -104,7 +100,3 @@ apart_sides Sell Sell c d = omega (arith, one_or_none c)
 pub told_one_side : (o : Option Place) (side : Side) (p q : ℕ) → told o side p + told o (other side) q ≤ 1
 told_one_side None side p q = omega arith
 told_one_side (Some place) side p q = apart_sides place.side side (eqb place.price p) (eqb place.price q)
-
-pub told_there : (o : Option Place) (side : Side) (price : ℕ) → 0 < told o side price → is_some o ≡ true
-told_there None side price h = absurd (omega arith)
-told_there (Some place) side price h = refl

@@ -1,18 +1,18 @@
 -- What an order that comes in leaves of a market.
-use Rattle.std.proofs.Common.{◌≡◌, ℕ, zero, suc, ◌+◌, ◌-◌, ◌<◌, ◌≤◌, min, Bool, true, false, cond, not, ◌&&◌, ltb, leb, List, [], ◌∷◌, ◌++◌, length, is_some, Some, None, Option, sym, refl, ap, ◌∙◌, ⊎_elim, arith}
+use Rattle.std.proofs.Common.{◌≡◌, ℕ, zero, suc, ◌+◌, ◌-◌, ◌<◌, ◌≤◌, Bool, true, false, cond, not, ◌&&◌, ltb, leb, List, [], ◌∷◌, ◌++◌, length, is_some, Some, None, Option, sym, refl, ap, ◌∙◌, ⊎_elim, arith}
 use Rattle.std.proofs.lemmas.Bool.{cases_Bool, cond-true, cond-false, false≢true, leb-false, and_cases, or_parts, or_from, not-false}
 use Rattle.fix.specs.Command.{NewOrder}
 use Rattle.fix.specs.declared.command.Side.{Side}
 use Rattle.fix.specs.declared.command.Side.TheVariants.{Buy, Sell}
-use Rattle.std.specs.List.{AllZip}
 use Rattle.level.proofs.Queues.{length_after}
 use Rattle.market.specs.declared.entry.Reason.{Reason}
 use Rattle.market.specs.declared.entry.Reason.TheVariants.{BookFull, DuplicateOrder}
 use Rattle.market.specs.declared.resting.Resting.{Resting}
 use Rattle.market.specs.Market.{Level, Market, is_of, in_queue, in_levels, or_else, known, crosses, best_crosses, other, levels, with_levels, resting, all_resting, capacity, lots_of, total}
+use Rattle.market.specs.Split.{Splits}
 use Rattle.market.specs.Put.{Met, less, after_fills, kept, of_fills, meets}
 use Rattle.side.specs.Meeting.{first_queue}
-use Rattle.side.proofs.First.{resting_kept}
+use Rattle.market.proofs.Levels.{resting_kept}
 use Rattle.side.proofs.Meets.{done_or_gone, meets_zero}
 use Rattle.book.proofs.Known.{none_from}
 
@@ -110,7 +110,7 @@ module _ (split : ℕ → List ℕ → List ℕ) (o : NewOrder) where
       (λ (t : b ≡ false). ap (λ (m : Met). in_levels member order m.levels) (cond-false b met stop t) ∙ e)
       (cases_Bool b)
 
-  module _ (within : (q : ℕ) (ls : List ℕ) → AllZip ◌≤◌ (split q ls) ls) (full : (q : ℕ) (ls : List ℕ) → total (split q ls) ≡ min q (total ls)) where
+  module _ (means : Splits split) where
     -- an order that meets a level and is not done has taken one out
     pub meets_fewer : (q : ℕ) (ls : List Level) → best_crosses o.side o.price ls ≡ true → 0 < length (first_queue ls) → 0 < (meets split o q ls).left → resting (meets split o q ls).levels < resting ls
     meets_fewer q [] c some h = absurd (omega arith)
@@ -124,8 +124,8 @@ module _ (split : ℕ → List ℕ → List ℕ) (o : NewOrder) where
         let e = ap (λ (m : Met). resting m.levels) (cond-true b met stop c) ∙ resting_kept l.price (after_fills fs l.queue) (meets split o (suc q - total fs) ls).levels in
         ⊎_elim
         (λ (z : after_fills fs l.queue ≡ []). omega (arith, ap length z, meets_resting (suc q - total fs) ls))
-        (λ (z : suc q - total fs ≡ 0). absurd (omega (arith, ap (λ n. (meets split o n ls).left) z, ap (λ (m : Met). m.left) (meets_zero split within full o ls))))
-        (done_or_gone split within full (suc q) l.queue)
+        (λ (z : suc q - total fs ≡ 0). absurd (omega (arith, ap (λ n. (meets split o n ls).left) z, ap (λ (m : Met). m.left) (meets_zero split means o ls))))
+        (done_or_gone split means (suc q) l.queue)
 
 -- ---- the market that the trades leave
 
@@ -149,7 +149,7 @@ module _ (split : ℕ → List ℕ → List ℕ) (o : NewOrder) (m : Market) whe
   all_with Buy ls = omega arith
   all_with Sell ls = omega arith
 
-  module _ (within : (q : ℕ) (ls : List ℕ) → AllZip ◌≤◌ (split q ls) ls) (full : (q : ℕ) (ls : List ℕ) → total (split q ls) ≡ min q (total ls)) where
+  module _ (means : Splits split) where
     -- where something is left of an order that is not turned down, there is room for it
     pub room_left : all_resting m ≤ capacity
         → (leb capacity (all_resting m) && not (best_crosses o.side o.price (levels (other o.side) m))) ≡ false
@@ -163,5 +163,5 @@ module _ (split : ℕ → List ℕ → List ℕ) (o : NewOrder) (m : Market) whe
         (λ (e : leb capacity (all_resting m) ≡ false). omega (arith, leb-false capacity (all_resting m) e, meets_resting split o o.lots ls))
         (λ (e : not (best_crosses o.side o.price ls) ≡ false).
         let c = not-false (best_crosses o.side o.price ls) e in
-        omega (arith, meets_fewer split o within full o.lots ls c (some c) h))
+        omega (arith, meets_fewer split o means o.lots ls c (some c) h))
         (and_cases (leb capacity (all_resting m)) (not (best_crosses o.side o.price ls)) free)

@@ -14,10 +14,6 @@ pub drop_one : (l : List Entry) (x : Entry) → drop 1 (set l 0 x) ≡ drop 1 l
 drop_one [] x = refl
 drop_one (y ∷ l) x = refl
 
-pub set_first : (l : List Entry) (x : Entry) → 0 < length l → set l 0 x ≡ written (x ∷ []) l
-set_first [] x h = absurd (omega arith)
-set_first (y ∷ l) x h = refl
-
 -- so many entries of a list are these, and what stands after them is as it was
 module _ (n : ℕ) (list list' es : List Entry) (front : take n list' ≡ es) (back : drop n list' ≡ drop n list) (upto : n ≤ length list') where
   pub count_from : n ≡ length es

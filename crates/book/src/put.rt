@@ -61,7 +61,8 @@ impl Book {
         Some(Reason::BookFull)
     }
 
-    /// The order meets the other side.
+    /// The order meets the other side. A function that lends a side and the places would be no plainer: it would owe the facts of a book for whatever is
+    /// written to them.
     fn meet<P: Policy>(&mut self, policy: &P, order: &NewOrder, list: &mut [Entry]) -> Progress
         requires long { 2049 ≤ length list.old }
         ensures market { market_of self.new ≡ with_levels (other order.now.side) (meets (P.Policy.split policy.now) (order_figures order.now) order.now.lots (levels (other order.now.side) (market_of self.old))).levels (market_of self.old) }

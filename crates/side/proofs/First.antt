@@ -15,6 +15,7 @@ use Rattle.level.specs.declared.level.Level.{Level as Held}
 use Rattle.level.specs.Queue.{queue_of}
 use Rattle.market.specs.declared.resting.Resting.{Resting}
 use Rattle.market.specs.Market.{Level, resting, lots_of}
+use Rattle.market.proofs.Levels.{resting_kept}
 use Rattle.market.specs.Put.{kept, after_fills}
 use Rattle.side.specs.Meeting.{first_queue, first_rank, best_filled}
 use Rattle.side.specs.Rank.{in_range}
@@ -28,10 +29,6 @@ first_few (l ∷ ls) = omega arith
 pub first_in_range : (ls : List Level) → 0 < length ls → standing ls ≡ true → in_range (first_rank ls) ≡ true
 first_in_range [] h t = absurd (omega arith)
 first_in_range (l ∷ ls) h t = stands_range l (standing_head l ls t)
-
-pub resting_kept : (p : ℕ) (q : List Resting) (ls : List Level) → resting (kept p q ls) ≡ length q + resting ls
-resting_kept p [] ls = omega arith
-resting_kept p (r ∷ q) ls = refl
 
 pub standing_kept : (p : ℕ) (q : List Resting) (ls : List Level) → in_range p ≡ true → standing ls ≡ true → standing (kept p q ls) ≡ true
 standing_kept p [] ls r t = t

@@ -4,7 +4,7 @@ use Rattle.answers.specs.Answer.{answered, refused}
 use Rattle.allocation.specs.Range.{tradable}
 use Rattle.std.specs.Ordering.{is_lt, is_eq}
 use Rattle.std.proofs.lemmas.List.{length_push, length-map}
-use Rattle.std.proofs.lemmas.Bool.{and_from, cond-true, cond-false, cond_both, cases_Bool, lt-ltb, le-ltb, le-leb, ltb-false, eqb-false, eqb-true}
+use Rattle.std.proofs.lemmas.Bool.{and_from, cond-true, cond-false, cond_both, cases_Bool, lt-ltb, le-ltb, ltb-false, eqb-false, eqb-true}
 use Rattle.ordered.specs.declared.node.Node.{Node}
 use Rattle.ordered.specs.declared.key.price.Price.{Price}
 use Rattle.ordered.specs.Order.{by_price}
@@ -131,9 +131,6 @@ module _ (held : Kept Price Held) (spares memory orders : ℕ) (s : InStep held 
       }
 
 -- ---- what is answered
-
-pub tradable_from : (lots : ℕ) → (lots ≡ 0 → ⊥) → lots ≤ 999999 → tradable lots ≡ true
-tradable_from lots some most = and_from _ _ (le-leb 1 lots (omega arith)) (le-leb lots 999999 most)
 
 joining_of : (p lots count : ℕ) → in_range p ≡ true → tradable lots ≡ true → joining p lots count ≡ cond (ltb count 1024) (answered tt) (refused 97 [])
 joining_of p lots count r t = cond-true (in_range p) _ _ r ∙ cond-true (tradable lots) _ _ t

@@ -1,11 +1,12 @@
 -- An incoming order meets one level after another.
-use Rattle.std.proofs.Common.{◌≡◌, ℕ, zero, suc, ◌+◌, ◌-◌, ◌<◌, ◌≤◌, min, true, false, ltb, ◌⊎◌, List, [], ◌∷◌, ◌++◌, length, sym, refl, ap, ◌∙◌, inl, inr, ⊎_elim, arith}
+use Rattle.std.proofs.Common.{◌≡◌, ℕ, zero, suc, ◌+◌, ◌-◌, ◌<◌, ◌≤◌, true, false, ltb, ◌⊎◌, List, [], ◌∷◌, ◌++◌, length, sym, refl, ap, ◌∙◌, inl, inr, ⊎_elim, arith}
 use Rattle.std.proofs.lemmas.Bool.{cases_lt, cond-true, cond-false, le-ltb}
 use Rattle.std.specs.List.{AllZip}
 use Rattle.market.specs.declared.resting.Resting.{Resting}
 use Rattle.fix.specs.declared.command.Side.{Side}
 use Rattle.fix.specs.Command.{NewOrder}
 use Rattle.market.specs.Market.{Level, total, lots_of, crosses, resting}
+use Rattle.market.specs.Split.{Splits}
 use Rattle.market.specs.Put.{Met, after_fills, kept, of_fills, meets}
 use Rattle.side.specs.Rank.{turned, at_price, priced}
 use Rattle.side.specs.Meeting.{best_filled, first_queue, first_rank}
@@ -33,14 +34,14 @@ after_whole : (rs : List Resting) → after_fills (lots_of rs) rs ≡ []
 after_whole [] = refl
 after_whole (r ∷ rs) = cond-false (ltb r.lots r.lots) _ _ (le-ltb r.lots r.lots (omega arith)) ∙ after_whole rs
 
-module _ (split : ℕ → List ℕ → List ℕ) (within : (q : ℕ) (ls : List ℕ) → AllZip ◌≤◌ (split q ls) ls) (full : (q : ℕ) (ls : List ℕ) → total (split q ls) ≡ min q (total ls)) where
+module _ (split : ℕ → List ℕ → List ℕ) (means : Splits split) where
   -- a trade leaves nothing of the level, or nothing of the order
   pub done_or_gone : (q : ℕ) (rs : List Resting) → (after_fills (split q (lots_of rs)) rs ≡ []) ⊎ (q - total (split q (lots_of rs)) ≡ 0)
   done_or_gone q rs = ⊎_elim
       (λ (l : total (lots_of rs) < q).
-      let all : total (split q (lots_of rs)) ≡ total (lots_of rs) = omega (arith, full q (lots_of rs)) in
-      inl (ap (λ fs. after_fills fs rs) (all_filled (split q (lots_of rs)) (lots_of rs) (within q (lots_of rs)) all) ∙ after_whole rs))
-      (λ (l : q ≤ total (lots_of rs)). inr (omega (arith, full q (lots_of rs))))
+      let all : total (split q (lots_of rs)) ≡ total (lots_of rs) = omega (arith, means.full q (lots_of rs)) in
+      inl (ap (λ fs. after_fills fs rs) (all_filled (split q (lots_of rs)) (lots_of rs) (means.within q (lots_of rs)) all) ∙ after_whole rs))
+      (λ (l : q ≤ total (lots_of rs)). inr (omega (arith, means.full q (lots_of rs))))
       (cases_lt (total (lots_of rs)) q)
 
   module _ (o : NewOrder) where

@@ -15,11 +15,12 @@ use Rattle.level.specs.declared.level.Level.{Level as Held}
 use Rattle.level.specs.Queue.{queue_of}
 use Rattle.market.specs.declared.resting.Resting.{Resting}
 use Rattle.market.specs.Market.{Level, is_of, in_queue, resting}
+use Rattle.market.proofs.Levels.{resting_kept}
 use Rattle.market.specs.Put.{kept, out_of_queue}
 use Rattle.market.specs.Prices.{queue_at}
 use Rattle.side.specs.Queues.{out_at}
 use Rattle.side.specs.Row.{seen_as, seen, standing, InStep}
-use Rattle.side.proofs.First.{resting_kept, standing_kept}
+use Rattle.side.proofs.First.{standing_kept}
 use Rattle.side.proofs.Found.{is_there, none_there, value_here, value_later}
 use Rattle.side.proofs.Ladder.{same_is, same_choice, stands_range, stands_some, standing_head, standing_tail}
 
@@ -51,7 +52,7 @@ queue_found key v (x ∷ ns) e =
     cond_same true = refl
     cond_same false = refl
 
-kept_some : (p : ℕ) (os : List Resting) (ls : List Level) → 0 < length os → kept p os ls ≡ record { price = p; queue = os } ∷ ls
+pub kept_some : (p : ℕ) (os : List Resting) (ls : List Level) → 0 < length os → kept p os ls ≡ record { price = p; queue = os } ∷ ls
 kept_some p [] ls h = absurd (omega arith)
 kept_some p (o ∷ os) ls h = refl
 

@@ -1,9 +1,8 @@
 -- A turn of the loop over the levels.
-use Rattle.std.proofs.Common.{◌≡◌, ℕ, ◌+◌, ◌-◌, ◌<◌, min, true, false, ◌&&◌, ltb, leb, List, [], ◌∷◌, ◌++◌, length, take, sym, refl, ap, ◌∙◌, ⊎_elim, arith, ◌≤◌}
+use Rattle.std.proofs.Common.{◌≡◌, ℕ, ◌+◌, ◌-◌, ◌<◌, true, false, ◌&&◌, ltb, leb, List, [], ◌∷◌, ◌++◌, length, take, sym, refl, ap, ◌∙◌, ⊎_elim, arith}
 use Rattle.std.proofs.lemmas.List.{append_assoc}
 use Rattle.std.proofs.lemmas.Bool.{and_parts, and_cases, ltb-true, ltb-false, false≢true}
 use Rattle.level.specs.declared.trade.Progress.{Progress}
-use Rattle.std.specs.List.{AllZip}
 use Rattle.level.specs.Trade.{Reported}
 use Rattle.level.proofs.Wrote.{drop_later}
 use Rattle.fix.specs.Command.{NewOrder}
@@ -11,6 +10,7 @@ use Rattle.fix.specs.declared.command.Side.{Side}
 use Rattle.fix.specs.declared.command.Side.TheVariants.{Buy, Sell}
 use Rattle.market.specs.declared.entry.Entry.{Entry}
 use Rattle.market.specs.Market.{Level, total, lots_of, crosses, resting, other}
+use Rattle.market.specs.Split.{Splits}
 use Rattle.market.specs.Put.{Met, of_fills, meets}
 use Rattle.side.specs.Meeting.{Meeting, best_filled, first_queue, first_rank, first_within}
 use Rattle.side.specs.Rank.{in_range, turned, at_price, priced}
@@ -44,7 +44,7 @@ module _ (o : NewOrder) (s : Side) (limit : ℕ) (side : s ≡ other o.side) (is
         crossed = crosses_rank o s n.price side fits (first_in_range (n ∷ ls) (omega arith) t) ∙ ap (leb n.price) (sym is) ∙ both.1;
       }
 
-  module _ (split : ℕ → List ℕ → List ℕ) (within : (q : ℕ) (ls : List ℕ) → AllZip ◌≤◌ (split q ls) ls) (full : (q : ℕ) (ls : List ℕ) → total (split q ls) ≡ min q (total ls)) where
+  module _ (split : ℕ → List ℕ → List ℕ) (means : Splits split) where
     -- and ends where nothing more happens
     pub meets_end : (ls : List Level) (left : ℕ) → standing ls ≡ true → false ≡ (ltb 0 left && first_within limit ls) → meets split o left (priced s ls) ≡ record { left = left; levels = priced s ls; entries = [] }
     meets_end [] left t e = refl
@@ -52,12 +52,12 @@ module _ (o : NewOrder) (s : Side) (limit : ℕ) (side : s ≡ other o.side) (is
         (λ (z : ltb 0 left ≡ false).
         let none : left ≡ 0 = omega (arith, ltb-false 0 left z) in
         let made : ℕ → Met = λ k. record { left = k; levels = priced s (n ∷ ls); entries = [] } in
-        ap (λ k. meets split o k (priced s (n ∷ ls))) none ∙ meets_zero split within full o (priced s (n ∷ ls)) ∙ ap made (sym none))
+        ap (λ k. meets split o k (priced s (n ∷ ls))) none ∙ meets_zero split means o (priced s (n ∷ ls)) ∙ ap made (sym none))
         (λ (z : leb n.price limit ≡ false).
-        meets_stops split within full o left (at_price s n) (priced s ls) (crosses_rank o s n.price side fits (first_in_range (n ∷ ls) (omega arith) t) ∙ ap (leb n.price) (sym is) ∙ z))
+        meets_stops split means o left (at_price s n) (priced s ls) (crosses_rank o s n.price side fits (first_in_range (n ∷ ls) (omega arith) t) ∙ ap (leb n.price) (sym is) ∙ z))
         (and_cases (ltb 0 left) (leb n.price limit) (sym e))
 
-module _ (split : ℕ → List ℕ → List ℕ) (within : (q : ℕ) (ls : List ℕ) → AllZip ◌≤◌ (split q ls) ls) (full : (q : ℕ) (ls : List ℕ) → total (split q ls) ≡ min q (total ls))
+module _ (split : ℕ → List ℕ → List ℕ) (means : Splits split)
     (o : NewOrder) (s : Side) (start : ℕ)
     (ls ls' ls'' : List Level) (list list' list'' : List Entry) (at after : Progress)
     (before : Meeting split o s start ls ls' list list' at.left at.written)
@@ -66,13 +66,13 @@ module _ (split : ℕ → List ℕ → List ℕ) (within : (q : ℕ) (ls : List 
     (told : Reported o (turned s (first_rank ls')) (split at.left (lots_of (first_queue ls'))) (first_queue ls') list' list'' at after) where
   -- a level or the order is gone
   pub less_again : length ls'' + after.left < length ls' + at.left
-  less_again = omega (arith, told.left, ap length shows, length_step split within full at.left ls' some more)
+  less_again = omega (arith, told.left, ap length shows, length_step split means at.left ls' some more)
 
   pub met_again : length list'' ≡ length list' → Meeting split o s start ls ls'' list list'' after.left after.written
   met_again long =
       let rs = ls' in
       let left = at.left in
-      let one = stepped split within full o s left rs more some crossed in
+      let one = stepped split means o s left rs more some crossed in
       let new : Met = meets split o after.left (priced s ls'') in
       let same : meets split o (left - total (split left (lots_of (first_queue rs)))) (priced s (best_filled (split left) rs)) ≡ new = ap (λ n. meets split o n (priced s (best_filled (split left) rs))) (sym told.left) ∙ ap (λ ls. meets split o after.left (priced s ls)) (sym shows) in
       let fills = of_fills o (turned s (first_rank rs)) left (split left (lots_of (first_queue rs))) (first_queue rs) in
@@ -90,6 +90,6 @@ module _ (split : ℕ → List ℕ → List ℕ) (within : (q : ℕ) (ls : List 
         back = told.back ∙ drop_later list' list at.written after.written told.from before.back;
         from = omega (arith, before.from, told.from);
         upto = omega (arith, told.upto);
-        room = λ h. let step = resting_step split within full left rs some (omega (arith, told.left)) in omega (arith, ap resting shows, told.upto);
+        room = λ h. let step = resting_step split means left rs some (omega (arith, told.left)) in omega (arith, ap resting shows, told.upto);
         most = omega (arith, told.left, before.most);
       }

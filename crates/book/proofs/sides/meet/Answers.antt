@@ -1,8 +1,7 @@
 use Rattle.std.proofs.Common.{◌≡◌, ℕ, zero, suc, ◌-◌, ◌≤◌, List, [], ◌∷◌, ◌++◌, length, take, drop, ap, ◌∙◌, subst, arith}
 use Rattle.fix.specs.Command.{order_figures}
-use Rattle.std.specs.List.{AllZip}
-use Rattle.level.proofs.Queues.{fits_from}
 use Rattle.market.specs.Market.{Level, other, resting}
+use Rattle.market.proofs.Splits.{splits}
 use Rattle.market.specs.Put.{Met, meets}
 use Rattle.side.specs.Levels.{levels_of}
 use Rattle.side.specs.Shape.{Shaped}
@@ -29,8 +28,7 @@ returns g c =
     let m : Met = meets split (order_figures o) o.lots (levels_of b) in
     let slice : take (c.in-Ok.after.written - 1) (drop 1 c.meet.new.list) ≡ m.entries = behind c.args.list.now c.meet.new.list m.entries c.in-Ok.after.written met.front (omega (arith, c.requires.long)) met.from in
     let nodes : c.forget.new.places.nodes ≡ forgotten (other o.side) m.entries ns = c.forget.ensures.places ∙ ap (λ s. forgotten s (take (c.in-Ok.after.written - 1) (drop 1 c.meet.new.list)) ns) c.other.ensures.value ∙ ap (λ es. forgotten (other o.side) es ns) slice in
-    let fitting : (q : ℕ) (ls : List ℕ) → AllZip ◌≤◌ (split q ls) ls = λ q ls. fits_from (split q ls) ls (g.met.P.Policy.as_many c.args.policy.now q ls) (g.met.P.Policy.within c.args.policy.now q ls) in
-    let p = passed (order_figures o) split fitting (λ k price. 0) o.lots (levels_of b) ns c.in-Ok.ensures.shaped.lots c.requires.sound.ascends (λ k price. omega (arith, c.requires.placed k price)) in
+    let p = passed (order_figures o) split (splits g.P.Policy.split g.met.P.Policy.as_many g.met.P.Policy.within g.met.P.Policy.full c.args.policy.now).within (λ k price. 0) o.lots (levels_of b) ns c.in-Ok.ensures.shaped.lots c.requires.sound.ascends (λ k price. omega (arith, c.requires.placed k price)) in
     let levels : levels_of c.meet.new.self ≡ m.levels = met.levels in
     record {
       meets = met;

@@ -1,9 +1,9 @@
-use Rattle.std.proofs.Common.{◌≡◌, ℕ, ◌<◌, ◌≤◌, min, not, ◌&&◌, leb, List, ◌∷◌, ◌++◌, length, take, set, sym, ap, ◌∙◌, subst, arith}
+use Rattle.std.proofs.Common.{◌≡◌, ◌<◌, ◌≤◌, not, ◌&&◌, leb, ◌∷◌, ◌++◌, length, take, set, sym, ap, ◌∙◌, subst, arith}
 use Rattle.std.proofs.lemmas.List.{drop-set-lt}
 use Rattle.fix.specs.Command.{order_figures}
-use Rattle.std.specs.List.{AllZip}
-use Rattle.level.proofs.Queues.{fits_from, total_sum}
-use Rattle.market.specs.Market.{Market, all_resting, capacity, known, best_crosses, levels, with_levels, other, total}
+use Rattle.market.specs.Market.{Market, all_resting, capacity, known, best_crosses, levels, with_levels, other}
+use Rattle.market.specs.Split.{Splits}
+use Rattle.market.proofs.Splits.{splits}
 use Rattle.market.specs.Put.{meets, rests}
 use Rattle.book.specs.declared.book.Book.{Book}
 use Rattle.book.specs.Market.{market_of}
@@ -13,12 +13,8 @@ use Rattle.book.proofs.Written.{take_one, count_from}
 use Rattle.book.proofs.book.Book.trade.Given as given
 use Rattle.book.proofs.book.Book.trade.Goals as goal
 
-module _ (g : given.Over) (p : g.row.P.Denot) where
-  fitting : (q : ℕ) (ls : List ℕ) → AllZip ◌≤◌ (g.P.Policy.split p q ls) ls
-  fitting q ls = fits_from (g.P.Policy.split p q ls) ls (g.met.P.Policy.as_many p q ls) (g.met.P.Policy.within p q ls)
-
-  full : (q : ℕ) (ls : List ℕ) → total (g.P.Policy.split p q ls) ≡ min q (total ls)
-  full q ls = total_sum (g.P.Policy.split p q ls) ∙ g.met.P.Policy.full p q ls ∙ ap (min q) (sym (total_sum ls))
+means : (g : given.Over) (p : g.row.P.Denot) → Splits (g.P.Policy.split p)
+means g p = splits g.P.Policy.split g.met.P.Policy.as_many g.met.P.Policy.within g.met.P.Policy.full p
 
 few_of : (b : Book) → all_resting (market_of b) ≤ capacity
 few_of b = omega (arith, b.counted, b.room, b.sound.inside)
@@ -34,7 +30,7 @@ rest-requires g c =
     let free = open_parts (known o.member o.order m) (leb capacity (all_resting m) && not (best_crosses o.side o.price (levels (other o.side) m))) c.requires.admitted in
     record {
       new = ap (known o.member o.order) e.market ∙ known_met split o m free.0;
-      short = λ h. subst (λ n. n < capacity) (sym (ap all_resting e.market)) (room_left split o m (fitting g p) (full g p) (few_of b) free.1 (first_some o.side o.price (levels (other o.side) m) e.shaped.stand) (omega (arith, h, e.left)));
+      short = λ h. subst (λ n. n < capacity) (sym (ap all_resting e.market)) (room_left split o m (means g p) (few_of b) free.1 (first_some o.side o.price (levels (other o.side) m) e.shaped.stand) (omega (arith, h, e.left)));
       most = omega (arith, e.left, meets_left split o o.lots (levels (other o.side) m), c.args.order.now.lots_within.1);
     }
 

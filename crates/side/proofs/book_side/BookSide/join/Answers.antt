@@ -2,13 +2,14 @@ use Rattle.std.proofs.Common.{◌≡◌, true, [], sym, refl, ap, ◌∙◌, ari
 use Rattle.answers.specs.Answer.{Answer, answered, refused, if_answered}
 use Rattle.allocation.specs.Range.{tradable}
 use Rattle.fix.specs.declared.command.Side.TheVariants.{Sell}
+use Rattle.level.proofs.Queues.{tradable_from}
 use Rattle.market.specs.Market.{resting}
 use Rattle.market.specs.Put.{joins}
 use Rattle.side.specs.Levels.{levels_of}
 use Rattle.side.specs.Rank.{in_range, turned, priced}
 use Rattle.side.specs.Refusal.{joining}
 use Rattle.side.proofs.Prices.{turned_twice, turned_range, resting_priced, joins_priced}
-use Rattle.side.proofs.Joins.{tradable_from, joining_full, joining_fits}
+use Rattle.side.proofs.Joins.{joining_full, joining_fits}
 use Rattle.side.proofs.book_side.BookSide.join.Goals as goal
 
 pub returns-then-len-eq-MOST_ORDERS : goal.returns-then-len-eq-MOST_ORDERS
@@ -17,7 +18,7 @@ returns-then-len-eq-MOST_ORDERS c =
     let ls = levels_of b in
     let price = c.args.price in
     let o = c.args.order in
-    let trades : tradable o.lots ≡ true = tradable_from o.lots c.if-order-eq0.false c.if-order-gt-MOST_LOTS.false in
+    let trades : tradable o.lots ≡ true = tradable_from o.lots (omega (arith, c.if-order-eq0.false)) c.if-order-gt-MOST_LOTS.false in
     let full : joining price o.lots (resting ls) ≡ refused 97 [] = joining_full price o.lots (resting ls) (sym c.if-not-in_range.ensures.value) trades (omega (arith, c.if-len-eq-MOST_ORDERS.true)) in
     record {
       answers = sym full;
@@ -36,7 +37,7 @@ returns c =
     let o = c.args.order in
     let range : in_range price ≡ true = sym c.if-not-in_range.ensures.value in
     let rank = c.turn.ensures.value in
-    let trades : tradable o.lots ≡ true = tradable_from o.lots c.if-order-eq0.false c.if-order-gt-MOST_LOTS.false in
+    let trades : tradable o.lots ≡ true = tradable_from o.lots (omega (arith, c.if-order-eq0.false)) c.if-order-gt-MOST_LOTS.false in
     let fits : joining price o.lots (resting ls) ≡ answered tt = joining_fits price o.lots (resting ls) range trades (omega (arith, c.len.ensures.value, c.len.ensures.few, c.if-len-eq-MOST_ORDERS.false)) in
     record {
       answers = sym fits;

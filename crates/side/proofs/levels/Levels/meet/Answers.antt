@@ -1,9 +1,10 @@
-use Rattle.std.proofs.Common.{◌≡◌, ℕ, min, List, [], ◌++◌, take, sym, refl, ap, ◌∙◌, arith, ◌≤◌, subst}
+use Rattle.std.proofs.Common.{◌≡◌, [], ◌++◌, take, sym, refl, ap, ◌∙◌, arith, subst}
 use Rattle.std.proofs.lemmas.List.{append-nil}
 use Rattle.fix.specs.Command.{order_figures}
-use Rattle.std.specs.List.{AllZip}
-use Rattle.level.proofs.Queues.{fits_from, total_sum, tradable_from}
-use Rattle.market.specs.Market.{total, resting}
+use Rattle.level.proofs.Queues.{tradable_from}
+use Rattle.market.specs.Market.{resting}
+use Rattle.market.specs.Split.{Splits}
+use Rattle.market.proofs.Splits.{splits}
 use Rattle.market.specs.Put.{Met, meets}
 use Rattle.fix.specs.declared.command.Side.TheVariants.{Sell}
 use Rattle.side.specs.Shape.{Shaped}
@@ -15,12 +16,8 @@ use Rattle.side.proofs.Turns.{crossing, meets_end, less_again, met_again}
 use Rattle.side.proofs.levels.Levels.meet.Given as given
 use Rattle.side.proofs.levels.Levels.meet.Goals as goal
 
-module _ (g : given.Over) (p : g.row.P.Denot) where
-  fitting : (q : ℕ) (ls : List ℕ) → AllZip ◌≤◌ (g.P.Policy.split p q ls) ls
-  fitting q ls = fits_from (g.P.Policy.split p q ls) ls (g.met.P.Policy.as_many p q ls) (g.met.P.Policy.within p q ls)
-
-  full : (q : ℕ) (ls : List ℕ) → total (g.P.Policy.split p q ls) ≡ min q (total ls)
-  full q ls = total_sum (g.P.Policy.split p q ls) ∙ g.met.P.Policy.full p q ls ∙ ap (min q) (sym (total_sum ls))
+means : (g : given.Over) (p : g.row.P.Denot) → Splits (g.P.Policy.split p)
+means g p = splits g.P.Policy.split g.met.P.Policy.as_many g.met.P.Policy.within g.met.P.Policy.full p
 
 pub trade_best-after-requires : goal.trade_best-after-requires
 trade_best-after-requires g c =
@@ -42,7 +39,7 @@ loop-side-smaller g c =
     let p = c.args.policy.now in
     let fits = range_from o.price o.price_within.0 o.price_within.1 in
     let x = crossing (order_figures o) c.args.side c.turn-limit.result c.requires.side c.turn-limit.ensures.value fits lp.self lp.after.left c.loop-side-test.ensures.shaped.stand c.loop-side-test.ensures.value in
-    less_again (g.P.Policy.split p) (fitting g p) (full g p) (order_figures o) c.args.side c.args.start c.args.self.now lp.self d.new.self c.args.list.now lp.list d.new.list lp.after d.result lp.invariant x.more x.some x.crossed d.ensures.levels d.ensures.reported
+    less_again (g.P.Policy.split p) (means g p) (order_figures o) c.args.side c.args.start c.args.self.now lp.self d.new.self c.args.list.now lp.list d.new.list lp.after d.result lp.invariant x.more x.some x.crossed d.ensures.levels d.ensures.reported
 
 pub loop-side-preserved : goal.loop-side-preserved
 loop-side-preserved g c =
@@ -52,7 +49,7 @@ loop-side-preserved g c =
     let p = c.args.policy.now in
     let fits = range_from o.price o.price_within.0 o.price_within.1 in
     let x = crossing (order_figures o) c.args.side c.turn-limit.result c.requires.side c.turn-limit.ensures.value fits lp.self lp.after.left c.loop-side-test.ensures.shaped.stand c.loop-side-test.ensures.value in
-    met_again (g.P.Policy.split p) (fitting g p) (full g p) (order_figures o) c.args.side c.args.start c.args.self.now lp.self d.new.self c.args.list.now lp.list d.new.list lp.after d.result lp.invariant x.more x.some x.crossed d.ensures.levels d.ensures.reported d.auto.list
+    met_again (g.P.Policy.split p) (means g p) (order_figures o) c.args.side c.args.start c.args.self.now lp.self d.new.self c.args.list.now lp.list d.new.list lp.after d.result lp.invariant x.more x.some x.crossed d.ensures.levels d.ensures.reported d.auto.list
 
 pub returns : goal.returns
 returns g c =
@@ -61,7 +58,7 @@ returns g c =
     let p = c.args.policy.now in
     let split = g.P.Policy.split p in
     let fits = range_from o.price o.price_within.0 o.price_within.1 in
-    let end : meets split (order_figures o) lp.after.left (priced c.args.side lp.self) ≡ record { left = lp.after.left; levels = priced c.args.side lp.self; entries = [] } = meets_end (order_figures o) c.args.side c.turn-limit.result c.requires.side c.turn-limit.ensures.value fits split (fitting g p) (full g p) lp.self lp.after.left c.loop-side-test.ensures.shaped.stand c.loop-side-test.ensures.value in
+    let end : meets split (order_figures o) lp.after.left (priced c.args.side lp.self) ≡ record { left = lp.after.left; levels = priced c.args.side lp.self; entries = [] } = meets_end (order_figures o) c.args.side c.turn-limit.result c.requires.side c.turn-limit.ensures.value fits split (means g p) lp.self lp.after.left c.loop-side-test.ensures.shaped.stand c.loop-side-test.ensures.value in
     record {
       shaped = subst (Shaped Sell) c.self.view_is (shaped_from _ _ _ _ c.self.invariant);
       meets = record {
