@@ -18,5 +18,5 @@ pub use policies::Policy;
 pub use policies::fifo::Fifo;
 pub use policies::pro_rata::ProRata;
 pub use promises::{promises_hold, tests_are_as_told, worked_examples_hold};
-pub use range::{MOST_LOTS, MOST_ORDERS};
+pub use range::{MOST_LOTS, MOST_ORDERS, is_tradable};
 pub use refusal::AllocationRefusal;

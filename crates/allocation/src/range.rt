@@ -10,7 +10,8 @@ pub const MOST_LOTS: u32 = 999_999;
 /// The most orders at one price: as many as a level holds.
 pub const MOST_ORDERS: usize = 1_024;
 
-fn is_tradable(lots: u32) -> bool
+/// Whether an order may have as many lots: 1 to 999,999.
+pub fn is_tradable(lots: u32) -> bool
     ensures value { result ≡ tradable lots }
 {
     1 <= lots && lots <= MOST_LOTS

@@ -2,11 +2,12 @@
 #![tactic(auto)]
 
 use console::Feed;
+use fix::MessageRefusal;
 use sealed::{BLOCK, check, is_zero};
 use std::io::Read;
 
 // What was seen so far. Zero blocks in a row are shown as one row, once the run is over.
-#[derive(Drop)]
+#[derive(Default, Drop)]
 struct Seen {
     sealed: usize,
     zero: usize,
@@ -23,12 +24,7 @@ fn list(rt: &HostRuntime) -> anyhow::Result<()> {
     let mut bytes = Vec::new(rt.alloc());
     rt.stdin().read_to_end(&mut bytes)?;
     println!(rt; "block\tis\tpayload\tmessages\trefused")?;
-    let mut seen = Seen {
-        sealed: 0,
-        zero: 0,
-        neither: 0,
-        zero_from: None,
-    };
+    let mut seen = Seen::default();
     for (at, block) in bytes.chunks_exact(BLOCK).enumerate() {
         show(rt, &mut seen, at, block)?;
     }
@@ -60,7 +56,10 @@ fn show(rt: &HostRuntime, seen: &mut Seen, at: usize, block: &[u8]) -> anyhow::R
     let (messages, refused) = count_messages(payload.bytes);
     match refused {
         None => println!(rt; "{at}\tsealed\t{size}\t{messages}\t-")?,
-        Some(number) => println!(rt; "{at}\tsealed\t{size}\t{messages}\t{number}")?,
+        Some(why) => {
+            let number = why.number();
+            println!(rt; "{at}\tsealed\t{size}\t{messages}\t{number}")?;
+        }
     }
     seen.sealed = seen.sealed.saturating_add(1);
     Ok(())
@@ -80,9 +79,9 @@ fn end_zeros(rt: &HostRuntime, seen: &mut Seen, end: usize) -> anyhow::Result<()
     Ok(())
 }
 
-// How many messages stand in a payload from its start on, and the number of the refusal where they stop before its end.
-fn count_messages(payload: &[u8]) -> (usize, Option<u32>) {
+// How many messages stand in a payload from its start on, and the refusal where they stop before its end.
+fn count_messages(payload: &[u8]) -> (usize, Option<MessageRefusal>) {
     let mut feed = Feed::new(payload);
     let stopped = feed.messages().find_map(|message| message.err());
-    (feed.taken(), stopped.map(|stopped| stopped.why.number()))
+    (feed.taken(), stopped.map(|stopped| stopped.why))
 }

@@ -72,6 +72,7 @@ impl fmt::Display for Stopped {
     }
 }
 
+/// Not a `Display` of the refusal, as above.
 fn meaning(why: MessageRefusal) -> &'static str {
     match why {
         MessageRefusal::WrongField { .. } => "a field is wrong or missing",

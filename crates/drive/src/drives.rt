@@ -20,7 +20,7 @@ pub trait ReadDrive {
     fn count(&self) -> usize
         ensures value { result ≡ (visible self.now).count };
 
-    // Copies block `at` into `buffer`. Each drive does it, since one that is no memory has no block to lend to the trait.
+    // Copies block `at` into `buffer`. Each drive counts and reads for itself, since one that is no memory has no block to lend to the trait.
     fn read(&self, at: usize, buffer: &mut [u8]) -> Result<(), DriveRefusal>
         ensures answers { answer result ≡ tested (visible self.now).count at (length buffer.old) }
         ensures copies { buffer.new ≡ if_answered (tested (visible self.now).count at (length buffer.old)) ((visible self.now).shown at) buffer.old };

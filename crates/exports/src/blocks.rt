@@ -7,6 +7,8 @@ ghost use Rattle.sealed.specs.Sealing.{sealing};
 ghost use Rattle.sealed.specs.Zero.{all_zero};
 ghost use Rattle.std.specs.Prelude.{◌≡◌};
 
+use sealed::SealRefusal;
+
 #[unsafe(no_mangle)]
 pub extern "C" fn lezdamir_crc32c(bytes: &[u8]) -> u32
     ensures value { result ≡ crc bytes.now }
@@ -38,8 +40,6 @@ pub extern "C" fn lezdamir_seal(payload: &[u8], block: &mut [u8; 512]) -> u32
     ensures value { result ≡ code (tested payload.now) }
     ensures block { block.new ≡ if_answered (tested payload.now) (sealing payload.now) block.old }
 {
-    match sealed::seal(payload, block) {
-        Ok(()) => 0,
-        Err(refusal) => refusal.number(),
-    }
+    let answer = sealed::seal(payload, block);
+    answer.err().map_or(0, SealRefusal::number)
 }

@@ -1,11 +1,9 @@
 // Workloads of the ordered map: a map cannot pass to C, so each makes its own, and answers a sum that the same work in another
 // language can be held to. Where there is no memory the answer is 0. A price has a value of four bytes, as the number of a queue, and
 // an order one of eight.
+use allocation::MOST_ORDERS;
 use ordered::{Key, Node, OrderId, OrderedMap, Price};
 use std::alloc::Global;
-
-// as many as a hall has orders
-const CAPACITY: usize = 1_024;
 
 // Keys that stand among the first 64 members, so that members repeat.
 fn order_id(key: u32) -> OrderId {
@@ -22,16 +20,19 @@ fn put_in<K: Key + Drop, V: From<u32> + Drop>(map: &mut OrderedMap<K, V>, key: K
     });
 }
 
-fn fill<K: Key + Drop, V: From<u32> + Drop, F: Fn(u32) -> K>(
-    map: &mut OrderedMap<K, V>,
+// A map of these keys; none where there is no memory.
+fn filled<K: Key + Drop, V: From<u32> + Into<u64> + Copy + Drop, F: Fn(u32) -> K>(
+    heap: Global,
     keys: &[u32],
     key_of: &F,
-)
+) -> Option<OrderedMap<K, V>>
     requires { F.IsAlwaysCallable key_of.now }
 {
+    let mut map = OrderedMap::new(heap, MOST_ORDERS).ok()?;
     for key in keys {
-        put_in(map, key_of(*key), *key);
+        put_in(&mut map, key_of(*key), *key);
     }
+    Some(map)
 }
 
 // The sum of the values that stand under the keys.
@@ -40,20 +41,17 @@ fn looked_up<K: Key + Drop, V: From<u32> + Into<u64> + Copy + Drop, F: Fn(u32) -
     keys: &[u32],
     sought: &[u32],
     key_of: F,
-) -> u64
+) -> Option<u64>
     requires { F.IsAlwaysCallable key_of }
 {
-    let Ok(mut map) = OrderedMap::<K, V>::new(heap, CAPACITY) else {
-        return 0;
-    };
-    fill(&mut map, keys, &key_of);
+    let map: OrderedMap<K, V> = filled(heap, keys, &key_of)?;
     let mut sum: u64 = 0;
     for key in sought {
         if let Some(value) = map.get(&key_of(*key)) {
             sum = sum.wrapping_add((*value).into());
         }
     }
-    sum
+    Some(sum)
 }
 
 // Each old key comes out, and the new one beside it goes in: the sum of the values that came out.
@@ -63,13 +61,10 @@ fn changed<K: Key + Drop, V: From<u32> + Into<u64> + Copy + Drop, F: Fn(u32) -> 
     old: &[u32],
     new: &[u32],
     key_of: F,
-) -> u64
+) -> Option<u64>
     requires { F.IsAlwaysCallable key_of }
 {
-    let Ok(mut map) = OrderedMap::<K, V>::new(heap, CAPACITY) else {
-        return 0;
-    };
-    fill(&mut map, keys, &key_of);
+    let mut map: OrderedMap<K, V> = filled(heap, keys, &key_of)?;
     let mut sum: u64 = 0;
     for (out, into) in old.iter().zip(new) {
         if let Some(node) = map.remove(&key_of(*out)) {
@@ -77,17 +72,17 @@ fn changed<K: Key + Drop, V: From<u32> + Into<u64> + Copy + Drop, F: Fn(u32) -> 
         }
         put_in(&mut map, key_of(*into), *into);
     }
-    sum
+    Some(sum)
 }
 
 #[unsafe(no_mangle)]
 pub extern "C" fn lezdamir_prices_looked_up(heap: Global, keys: &[u32], sought: &[u32]) -> u64 {
-    looked_up::<Price, u32, _>(heap, keys, sought, |key| Price(key))
+    looked_up::<Price, u32, _>(heap, keys, sought, |key| Price(key)).unwrap_or(0)
 }
 
 #[unsafe(no_mangle)]
 pub extern "C" fn lezdamir_orders_looked_up(heap: Global, keys: &[u32], sought: &[u32]) -> u64 {
-    looked_up::<OrderId, u64, _>(heap, keys, sought, order_id)
+    looked_up::<OrderId, u64, _>(heap, keys, sought, order_id).unwrap_or(0)
 }
 
 #[unsafe(no_mangle)]
@@ -97,7 +92,7 @@ pub extern "C" fn lezdamir_prices_changed(
     old: &[u32],
     new: &[u32],
 ) -> u64 {
-    changed::<Price, u32, _>(heap, keys, old, new, |key| Price(key))
+    changed::<Price, u32, _>(heap, keys, old, new, |key| Price(key)).unwrap_or(0)
 }
 
 #[unsafe(no_mangle)]
@@ -107,5 +102,5 @@ pub extern "C" fn lezdamir_orders_changed(
     old: &[u32],
     new: &[u32],
 ) -> u64 {
-    changed::<OrderId, u64, _>(heap, keys, old, new, order_id)
+    changed::<OrderId, u64, _>(heap, keys, old, new, order_id).unwrap_or(0)
 }

@@ -45,14 +45,15 @@ fn digest_of(command: &Command) -> u64
 {
     match command {
         Command::New(o) => {
-            68 + o.member as u64
+            b'D' as u64
+                + o.member as u64
                 + o.number as u64
                 + o.order as u64
                 + o.side.number() as u64
                 + o.lots as u64
                 + o.price as u64
         }
-        Command::Cancel(o) => 70 + o.member as u64 + o.number as u64 + o.order as u64,
+        Command::Cancel(o) => b'F' as u64 + o.member as u64 + o.number as u64 + o.order as u64,
     }
 }
 

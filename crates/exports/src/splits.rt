@@ -5,17 +5,15 @@ ghost use Rattle.allocation.specs.Fifo.{fifo};
 ghost use Rattle.allocation.specs.ProRata.{pro_rata};
 ghost use Rattle.exports.specs.Code.{code};
 
-use allocation::{Fifo, Policy, ProRata};
+use allocation::{AllocationRefusal, Fifo, Policy, ProRata};
 
 /// 0, or the number of the refusal.
 fn split<P: Policy>(policy: &P, quantity: u32, lots: &[u32], fills: &mut [u32]) -> u32
     ensures value { result ≡ code (tested quantity lots.now (length fills.old)) }
     ensures writes { fills.new ≡ if_answered (tested quantity lots.now (length fills.old)) (P.Policy.split policy.now quantity lots.now) fills.old }
 {
-    match policy.allocate(quantity, lots, fills) {
-        Ok(()) => 0,
-        Err(refusal) => refusal.number(),
-    }
+    let answer = policy.allocate(quantity, lots, fills);
+    answer.err().map_or(0, AllocationRefusal::number)
 }
 
 #[unsafe(no_mangle)]

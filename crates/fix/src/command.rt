@@ -8,17 +8,18 @@ pub(crate) const LARGEST_NUMBER: u32 = 999_999_999;
 
 pub(crate) const LARGEST_LOTS: u32 = 999_999;
 
-pub(crate) const LARGEST_PRICE: u32 = 999_999;
+pub const LARGEST_PRICE: u32 = 999_999;
 
+/// A side of the market, with its number in field 54.
 #[derive(Clone, Copy, PartialEq, Eq, Debug)]
 pub enum Side {
-    Buy,
-    Sell,
+    Buy = 1,
+    Sell = 2,
 }
 
 /// A limit order: the member who sends it, the command's number, the member's own number of the order,
 /// and what is wanted at which price.
-#[derive(Clone, Copy)]
+#[derive(Clone, Copy, PartialEq, Eq, Debug)]
 pub struct NewOrder {
     pub member: u32,
     pub number: u32,
@@ -35,7 +36,7 @@ pub struct NewOrder {
 
 /// Removes what rests of the member's order of this number. It repeats three fields of an order: a part that both share would stand in every
 /// `order.member`, and save two or three lines where they are read and written.
-#[derive(Clone, Copy)]
+#[derive(Clone, Copy, PartialEq, Eq, Debug)]
 pub struct Cancel {
     pub member: u32,
     pub number: u32,
@@ -45,7 +46,7 @@ pub struct Cancel {
     ghost order_within: { Within largest_number order },
 }
 
-#[derive(Clone, Copy)]
+#[derive(Clone, Copy, PartialEq, Eq, Debug)]
 pub enum Command {
     New(NewOrder),
     Cancel(Cancel),

@@ -13,10 +13,7 @@ impl Side {
     pub fn number(self) -> u32
         ensures value { result ≡ side_number self }
     {
-        match self {
-            Side::Buy => 1,
-            Side::Sell => 2,
-        }
+        self as u32
     }
 }
 

@@ -18,7 +18,7 @@ mod writer;
 // messages written
 mod writing;
 
-pub use command::{Cancel, Command, NewOrder, Side};
+pub use command::{Cancel, Command, LARGEST_PRICE, NewOrder, Side};
 pub use laws::one_spelling;
 pub use reading::{First, read, read_first};
 pub use refusal::{BufferTooShort, MessageRefusal, OutOfRange};

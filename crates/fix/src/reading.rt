@@ -23,7 +23,7 @@ pub fn read(bytes: &[u8]) -> Result<Command, MessageRefusal>
 }
 
 /// The first message of a run of bytes: its command, and how many bytes it takes.
-#[derive(Clone, Copy)]
+#[derive(Clone, Copy, PartialEq, Eq, Debug)]
 pub struct First {
     pub command: Command,
     pub length: usize,

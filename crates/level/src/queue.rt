@@ -11,7 +11,7 @@ ghost use Rattle.level.specs.Refusal.{add_answer, addition};
 
 use crate::level::Level;
 use crate::refusal::AddRefusal;
-use allocation::{MOST_LOTS, MOST_ORDERS};
+use allocation::{MOST_ORDERS, is_tradable};
 use market::Resting;
 use std::alloc::{AllocError, Global};
 
@@ -59,7 +59,7 @@ impl Level {
         ensures answers { add_answer result ≡ addition order.lots (length (queue_of self.old)) }
         ensures queue { queue_of self.new ≡ if_answered (addition order.lots (length (queue_of self.old))) (queue_of self.old ++ order ∷ []) (queue_of self.old) }
     {
-        if order.lots == 0 || order.lots > MOST_LOTS {
+        if !is_tradable(order.lots) {
             return Err(AddRefusal::LotsOutOfRange);
         }
         if self.queue.len() == MOST_ORDERS {
@@ -75,14 +75,10 @@ impl Level {
         ensures value { result ≡ in_queue member order (queue_of self.old) }
         ensures queue { queue_of self.new ≡ out_of_queue member order (queue_of self.old) }
     {
-        match place_of(self.queue.as_slice(), member, order) {
-            None => None,
-            Some(place) => {
-                let taken = self.queue.remove(place);
-                self.lots -= taken.lots;
-                Some(taken)
-            }
-        }
+        let place = place_of(self.queue.as_slice(), member, order)?;
+        let taken = self.queue.remove(place);
+        self.lots -= taken.lots;
+        Some(taken)
     }
 }
 

@@ -17,7 +17,7 @@ use fix::NewOrder;
 use market::{Entry, Event, Resting, other};
 
 /// How far an incoming order has come: the lots left of it, and how many entries are written in the list, which its caller lends so that nothing allocates.
-#[derive(Clone, Copy)]
+#[derive(Clone, Copy, PartialEq, Eq, Debug)]
 pub struct Progress {
     pub left: u32,
     pub written: usize,

@@ -4,7 +4,7 @@ ghost use Rattle.market.specs.Entry.{figures, reason_number};
 
 use crate::entry::{Entry, Event, Reason};
 
-/// The nine values of an entry, as tables and reports print them; `Event` is the enum of the kinds. What a kind does not name is 0.
+/// The nine values of an entry, as tables and reports print them: with enums each value would be turned into a number there. `Event` is the enum of the kinds. What a kind does not name is 0.
 #[derive(Clone, Copy, PartialEq, Eq, Debug)]
 pub struct Figures {
     pub command: u32,

@@ -15,7 +15,7 @@ pub fn other(side: Side) -> Side
     }
 }
 
-/// Whether two sides are one, as `==` has it.
+/// Whether two sides are one, as `==` has it. It stands for those who called it before sides compared.
 pub fn is_same(a: Side, b: Side) -> bool
     ensures value { result ≡ same_side a b }
 {

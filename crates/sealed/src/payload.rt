@@ -8,7 +8,7 @@ use crate::zero::is_zero;
 use crc32c::checksum;
 
 /// The payload of a sealed block: a part of the block, and its place there.
-#[derive(Clone, Copy)]
+#[derive(Clone, Copy, PartialEq, Eq, Debug)]
 pub struct Payload<'a> {
     pub bytes: &'a [u8],
     pub place: usize,

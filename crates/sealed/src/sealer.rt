@@ -9,7 +9,7 @@ use crate::mask::mask;
 use crc32c::checksum;
 
 /// Why a payload is not sealed.
-#[derive(Clone, Copy, Debug)]
+#[derive(Clone, Copy, PartialEq, Eq, Debug)]
 pub enum SealRefusal {
     /// A payload has 1 to 505 bytes, and this one has `length`.
     PayloadLength { length: usize },

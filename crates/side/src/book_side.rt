@@ -12,7 +12,7 @@ pub struct BookSide {
 }
 
 /// A level as it is looked at.
-#[derive(Clone, Copy)]
+#[derive(Clone, Copy, PartialEq, Eq, Debug)]
 pub struct LevelAt<'a> {
     pub price: u32,
     /// oldest first

@@ -18,7 +18,7 @@ use crate::book_side::{BookSide, LevelAt};
 use crate::levels::Levels;
 use crate::rank::{in_range, turn};
 use crate::refusal::{JoinRefusal, MeetRefusal};
-use allocation::{MOST_LOTS, Policy};
+use allocation::{Policy, is_tradable};
 use fix::{NewOrder, Side};
 use level::{MOST_ORDERS, Progress, Scratch};
 use market::{Entry, Resting, is_same};
@@ -62,7 +62,7 @@ impl BookSide {
         if !in_range(price) {
             return Err(JoinRefusal::PriceOutOfRange);
         }
-        if order.lots == 0 || order.lots > MOST_LOTS {
+        if !is_tradable(order.lots) {
             return Err(JoinRefusal::LotsOutOfRange);
         }
         if self.len() == MOST_ORDERS {

@@ -1,10 +1,7 @@
 ghost use Rattle.std.specs.Prelude.{◌≡◌, ◌≤◌, true};
 ghost use Rattle.side.specs.Rank.{in_range as is_in_range, turned};
 
-use fix::Side;
-
-/// The largest price.
-const LARGEST_PRICE: u32 = 999_999;
+use fix::{LARGEST_PRICE, Side};
 
 pub(crate) fn in_range(price: u32) -> bool
     ensures value { result ≡ is_in_range price }

@@ -39,9 +39,7 @@ impl<'a> Reader<'a> {
         ensures next { Next self.old self.new result }
     {
         let place = self.at;
-        let Some((field, end)) = field_at(self.bytes, place) else {
-            return Err(WrongField { place });
-        };
+        let (field, end) = field_at(self.bytes, place).ok_or(WrongField { place })?;
         self.at = end;
         Ok(Placed { field, place })
     }
@@ -56,15 +54,11 @@ impl<'a> Reader<'a> {
         ensures reads { Reads (step (number_shape tag low high)) (λ n. n) self.old self.new result }
     {
         let place = self.at;
-        let Some((field, end)) = field_at(self.bytes, place) else {
-            return Err(WrongField { place });
-        };
+        let (field, end) = field_at(self.bytes, place).ok_or(WrongField { place })?;
         if field.tag() != tag {
             return Err(WrongField { place });
         }
-        let Some(n) = numeral(field.value(), low, high) else {
-            return Err(WrongField { place });
-        };
+        let n = numeral(field.value(), low, high).ok_or(WrongField { place })?;
         self.at = end;
         Ok(n)
     }
