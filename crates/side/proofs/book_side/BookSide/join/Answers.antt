@@ -2,7 +2,6 @@ use Rattle.std.proofs.Common.{◌≡◌, true, [], sym, refl, ap, ◌∙◌, ari
 use Rattle.answers.specs.Answer.{Answer, answered, refused, if_answered}
 use Rattle.allocation.specs.Range.{tradable}
 use Rattle.fix.specs.declared.command.Side.TheVariants.{Sell}
-use Rattle.level.proofs.Queues.{tradable_from}
 use Rattle.market.specs.Market.{resting}
 use Rattle.market.specs.Put.{joins}
 use Rattle.side.specs.Levels.{levels_of}
@@ -18,7 +17,7 @@ returns-then-len-eq-MOST_ORDERS c =
     let ls = levels_of b in
     let price = c.args.price in
     let o = c.args.order in
-    let trades : tradable o.lots ≡ true = tradable_from o.lots (omega (arith, c.if-order-eq0.false)) c.if-order-gt-MOST_LOTS.false in
+    let trades : tradable o.lots ≡ true = sym c.if-not-is_tradable.ensures.value in
     let full : joining price o.lots (resting ls) ≡ refused 97 [] = joining_full price o.lots (resting ls) (sym c.if-not-in_range.ensures.value) trades (omega (arith, c.if-len-eq-MOST_ORDERS.true)) in
     record {
       answers = sym full;
@@ -37,7 +36,7 @@ returns c =
     let o = c.args.order in
     let range : in_range price ≡ true = sym c.if-not-in_range.ensures.value in
     let rank = c.turn.ensures.value in
-    let trades : tradable o.lots ≡ true = tradable_from o.lots (omega (arith, c.if-order-eq0.false)) c.if-order-gt-MOST_LOTS.false in
+    let trades : tradable o.lots ≡ true = sym c.if-not-is_tradable.ensures.value in
     let fits : joining price o.lots (resting ls) ≡ answered tt = joining_fits price o.lots (resting ls) range trades (omega (arith, c.len.ensures.value, c.len.ensures.few, c.if-len-eq-MOST_ORDERS.false)) in
     record {
       answers = sym fits;
