@@ -61,8 +61,7 @@ impl Book {
         Some(Reason::BookFull)
     }
 
-    /// The order meets the other side. A function that lends a side and the places would be no plainer: it would owe the facts of a book for whatever is
-    /// written to them.
+    /// The order meets the other side.
     fn meet<P: Policy>(&mut self, policy: &P, order: &NewOrder, list: &mut [Entry]) -> Progress
         requires long { 2049 ≤ length list.old }
         ensures market { market_of self.new ≡ with_levels (other order.now.side) (meets (P.Policy.split policy.now) (order_figures order.now) order.now.lots (levels (other order.now.side) (market_of self.old))).levels (market_of self.old) }
@@ -72,6 +71,7 @@ impl Book {
         ensures upto { result.written ≤ length list.new }
         ensures shaped { Shaped (other order.now.side) (levels (other order.now.side) (market_of self.old)) }
     {
+        // A function that lends a side and the places would be no plainer: it would owe the facts of a book for whatever is written to them.
         match order.side {
             Side::Buy => meet(
                 &mut self.sells,

@@ -85,6 +85,7 @@ impl Levels {
         ensures shaped { Shaped Sell self.old }
         ensures meets { Meets (P.Policy.split policy.now) (order_figures order.now) (priced side self.old) (priced side self.new) list.old list.new start result }
     {
+        // so that the list has room for two entries of each
         prove!(self.orders <= MOST_ORDERS);
         let limit = turn(side, order.price);
         let mut after = Progress {
