@@ -6,7 +6,7 @@ use fix::{Cancel, Command, NewOrder, Side};
 use market::Entry;
 use std::alloc::Global;
 
-/// What C is told where memory is wanting, or a figure is out of range.
+/// The answer where memory is wanting, or a figure is out of range.
 const FAILED: u64 = u64::MAX;
 
 fn command(six: &[u32]) -> Option<Command> {

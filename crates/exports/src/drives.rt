@@ -18,7 +18,7 @@ pub extern "C" fn lezdamir_read_block(bytes: &[u8], at: usize, buffer: &mut [u8]
 }
 
 // Writes the blocks of a drive in turn, `writes` times in all; what comes back is how many were not refused.
-// It is a loop, since the library's facts on `filter` are of closures that no call changes, and this one would change the drive.
+// It is a loop with a sum, since the library's facts on `filter` are of closures that no call changes, and this one would change the drive.
 fn write_in_turn<D: Drive>(drive: &mut D, writes: usize) -> usize
     requires some { 0 < (D.ReadDrive.visible drive.old).count }
     ensures value { result ≡ writes }

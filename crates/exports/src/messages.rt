@@ -5,17 +5,14 @@ ghost use Rattle.fix.specs.Refusal.{tested_order};
 ghost use Rattle.exports.specs.Code.{code};
 ghost use Rattle.exports.specs.Message.{place as place_of, digest, side_of, order_of, text_of, written_length, written_into};
 
-use fix::{Command, NewOrder, Side, read, write};
+use fix::{Command, MessageRefusal, NewOrder, Side, read, write};
 
 /// Reads a message: 0, or the number of the refusal.
 #[unsafe(no_mangle)]
 pub extern "C" fn lezdamir_refusal(bytes: &[u8]) -> u32
     ensures value { result ≡ code (parse bytes.now) }
 {
-    match read(bytes) {
-        Ok(_) => 0,
-        Err(why) => why.number(),
-    }
+    read(bytes).err().map_or(0, MessageRefusal::number)
 }
 
 /// Reads a message: the place of its refusal, 0 where that has none.
@@ -23,10 +20,7 @@ pub extern "C" fn lezdamir_refusal(bytes: &[u8]) -> u32
 pub extern "C" fn lezdamir_place(bytes: &[u8]) -> usize
     ensures value { result ≡ place_of (parse bytes.now) }
 {
-    match read(bytes) {
-        Ok(_) => 0,
-        Err(why) => why.place(),
-    }
+    read(bytes).err().map_or(0, MessageRefusal::place)
 }
 
 /// Reads a message: the sum of the kind's letter and all figures, 0 where it is refused.

@@ -110,7 +110,7 @@ impl<'a> Writer<'a> {
     }
 }
 
-/// Writes a number at this place, and answers where it ends. The place goes from digit to digit as a number: a recursion over
+/// Writes a number at this place, and answers where it ends. The place is a number here: a recursion over
 /// the writer took 152 ns for a message of 61 bytes, in place of 74.
 fn put_decimal(out: &mut [u8], at: usize, n: u32) -> usize
     requires room { at + length (decimal n) ≤ length out.old }

@@ -91,7 +91,7 @@ fn body_length(command: &Command) -> usize
     }
 }
 
-/// The fields after the kind.
+/// The fields after the kind, by their tags, which are FIX's names for them.
 fn order_fields(o: &NewOrder) -> [Numbered; 6]
     ensures { numbers result ≡ shown_row new_order_fields (new_order_values (order_figures o.now)) }
 {

@@ -25,7 +25,8 @@ pub struct Progress {
 
 impl Level {
     /// Trades with an incoming order as the policy splits what is left of it, and writes the entries behind those that are written. A refusal
-    /// leaves the level and the list as they were.
+    /// leaves the level and the list as they were. The policy and its scratch are lent for a whole run, the order for its way and the price for this
+    /// level: a struct of them would be made and taken apart at each level.
     pub fn trade<P: Policy>(
         &mut self,
         policy: &P,
@@ -56,7 +57,7 @@ pub(crate) fn take_off(queue: &mut Vec<Resting>, fills: &[u32])
     ensures items { queue.new.items ≡ after_fills fills.now queue.old.items }
     ensures memory { vec_capacity queue.new ≡ vec_capacity queue.old }
 {
-    // by places: `retain_mut` would take a closure that goes on with the fills, and no lemma speaks of one that changes what it captures
+    // by places: a closure for `retain_mut` would change the fills that it captures, and std's chains of facts hold for closures that do not
     let mut stay: usize = 0;
     for (i, fill) in fills.iter().enumerate() {
         let order = queue[i];

@@ -139,6 +139,15 @@ fn orders_as_in_a_table(rt: HostRuntime) -> Result<(), Fail> {
 }
 
 #[test]
+fn refusals_have_numbers(rt: HostRuntime) {
+    let key = Price(1);
+    let there = InsertRefusal::KeyIsThere(Node { key, value: 1 });
+    let full = InsertRefusal::NoRoom(Node { key, value: 1 });
+    assert_eq!(rt; there.number(), 94);
+    assert_eq!(rt; full.number(), 95);
+}
+
+#[test]
 fn values_change_where_they_lie(rt: HostRuntime) -> Result<(), Fail> {
     let mut map = OrderedMap::new(rt.alloc(), 3)?;
     for number in [5, 2, 8] {

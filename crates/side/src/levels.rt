@@ -21,7 +21,7 @@ use ordered::{Node, OrderedMap, Price};
 use std::alloc::{AllocError, Global};
 use std::marker::Model;
 
-/// Levels by rank, the best first, and spare ones, whose memory waits for a price. Together there are as many as orders can rest.
+/// Levels by rank, the best first, and spare ones, whose memory is for prices to come. Together there are as many as orders can rest.
 #[derive(Drop)]
 pub(crate) struct Levels {
     held: OrderedMap<Price, Level>,
