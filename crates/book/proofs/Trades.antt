@@ -129,10 +129,6 @@ module _ (split : ℕ → List ℕ → List ℕ) (o : NewOrder) where
 
 -- ---- the market that the trades leave
 
-pub levels_other : (s : Side) (ls : List Level) (m : Market) → levels s (with_levels (other s) ls m) ≡ levels s m
-levels_other Buy ls m = refl
-levels_other Sell ls m = refl
-
 module _ (split : ℕ → List ℕ → List ℕ) (o : NewOrder) (m : Market) where
   known_at : (s : Side) (q : ℕ) → known o.member o.order m ≡ false → known o.member o.order (with_levels (other s) (meets split o q (levels (other s) m)).levels m) ≡ false
   known_at Buy q e =

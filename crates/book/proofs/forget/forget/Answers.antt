@@ -1,5 +1,5 @@
 use Rattle.std.proofs.Common.{◌≡◌, ℕ, ◌+◌, ◌<◌, cond, List, length, get_or, drop, sym, ap, ◌∙◌, subst}
-use Rattle.std.proofs.lemmas.List.{at_drop_more, at_drop_all}
+use Rattle.std.proofs.lemmas.List.{at_drop_more}
 use Rattle.std.proofs.lemmas.Bool.{cond-true, cond-false}
 use Rattle.fix.specs.declared.command.Side.{Side}
 use Rattle.ordered.specs.Kept.{Sound}
@@ -27,12 +27,3 @@ loop-entry-preserved c =
       | then-filled_whole w ↦ (next c.args.side es lp.entry-index _ ns c.if-filled_whole.places.nodes _ h (ap (λ m. m.nodes) w.places-is ∙ w.remove.ensures.nodes ∙ sym (cond-true _ _ _ (sym w.if-filled_whole.ensures.value))) lp.invariant.0, ap (λ m. m.capacity) w.places-is ∙ w.remove.ensures.capacity ∙ lp.invariant.1, subst (Sound by_order_id) (sym w.places-is) w.remove.ensures.sound)
       | else-filled_whole w ↦ (next c.args.side es lp.entry-index _ ns c.if-filled_whole.places.nodes _ h (ap (λ m. m.nodes) w.places-is ∙ sym (cond-false _ _ _ (sym w.if-filled_whole.ensures.value))) lp.invariant.0, ap (λ m. m.capacity) w.places-is ∙ lp.invariant.1, subst (Sound by_order_id) (sym w.places-is) lp.invariant.2)
     ]
-
-pub returns : goal.returns
-returns c =
-    let lp = c.loop-entry in
-    record {
-      places = sym (at_drop_all (λ xs. forgotten c.args.side xs lp.places.nodes) c.args.entries.now lp.entry-index c.loop-entry-test.false) ∙ lp.invariant.0;
-      room = lp.invariant.1;
-      sound = lp.invariant.2;
-    }

@@ -1,15 +1,13 @@
-use Rattle.std.proofs.Common.{◌≡◌, ℕ, ◌<◌, false, None, sym, ap, ◌∙◌, subst, arith}
+use Rattle.std.proofs.Common.{◌≡◌, ℕ, ◌<◌, false, None, sym, ap, ◌∙◌, arith}
 use Rattle.fix.specs.declared.command.Side.TheVariants.{Buy, Sell}
 use Rattle.ordered.specs.declared.key.order_id.OrderId.{OrderId}
 use Rattle.level.proofs.Queues.{tradable_from}
 use Rattle.market.specs.Market.{known}
 use Rattle.side.specs.Levels.{levels_of}
-use Rattle.market.specs.Tally.{same_side}
 use Rattle.side.proofs.Ladder.{range_from}
 use Rattle.book.specs.declared.book.Book.{Book}
 use Rattle.book.specs.Market.{market_of}
 use Rattle.book.specs.Place.{place_of, told}
-use Rattle.book.specs.Step.{Together}
 use Rattle.book.proofs.Places.{same_from}
 use Rattle.book.proofs.Known.{none_from, known_is}
 use Rattle.book.proofs.book.Book.rest.Goals as goal
@@ -37,22 +35,6 @@ rest-requires c =
       lots = tradable_from c.args.left more c.requires.most;
     }
 
-pub invariant_of-self : goal.invariant_of-self
-invariant_of-self c =
-    let b = c.args.self.now in
-    let e = c.rest.ensures in
-    let t : Together Buy (levels_of b.buys) (levels_of c.rest.new.mine) b.places.nodes c.rest.new.places.nodes =
-    subst (λ s. Together s (levels_of b.buys) (levels_of c.rest.new.mine) b.places.nodes c.rest.new.places.nodes) c.in-Buy.is e.together in
-    record {
-      buys_side = ap (λ s. same_side s Buy) e.side ∙ b.buys_side;
-      sells_side = b.sells_side;
-      bought = t.placed;
-      sold = (λ k p. b.sold k p ∙ sym (t.others k p));
-      counted = omega (arith, b.counted, t.count);
-      sound = e.sound;
-      room = e.room ∙ b.room;
-    }
-
 pub rest-requires-in-Sell : goal.rest-requires-in-Sell
 rest-requires-in-Sell c =
     let b = c.args.self.now in
@@ -68,20 +50,4 @@ rest-requires-in-Sell c =
       room = b.room;
       price = range_from o.price o.price_within.0 o.price_within.1;
       lots = tradable_from c.args.left more c.requires.most;
-    }
-
-pub invariant_of-self-in-Sell : goal.invariant_of-self-in-Sell
-invariant_of-self-in-Sell c =
-    let b = c.args.self.now in
-    let e = c.rest-in-Sell.ensures in
-    let t : Together Sell (levels_of b.sells) (levels_of c.rest-in-Sell.new.mine) b.places.nodes c.rest-in-Sell.new.places.nodes =
-    subst (λ s. Together s (levels_of b.sells) (levels_of c.rest-in-Sell.new.mine) b.places.nodes c.rest-in-Sell.new.places.nodes) c.in-Sell.is e.together in
-    record {
-      buys_side = b.buys_side;
-      sells_side = ap (λ s. same_side s Sell) e.side ∙ b.sells_side;
-      bought = (λ k p. b.bought k p ∙ sym (t.others k p));
-      sold = t.placed;
-      counted = omega (arith, b.counted, t.count);
-      sound = e.sound;
-      room = e.room ∙ b.room;
     }
