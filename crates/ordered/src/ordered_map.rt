@@ -90,6 +90,7 @@ impl<K: Key, V> OrderedMap<K, V> {
         ensures hands_back { IfErr result (λ refusal. handed_back refusal ≡ node) }
         ensures nodes { self.new.nodes ≡ if_answered (insertion K.cmp self.old.capacity self.old.nodes node.key) (put K.cmp node self.old.nodes) self.old.nodes }
         ensures capacity { self.new.capacity ≡ self.old.capacity }
+        ensures was_sound { Sound K.cmp self.old }
         ensures sound { Sound K.cmp self.new }
         ensures told { Inserted K.cmp self.old.capacity node self.old.nodes self.new.nodes result }
     {
@@ -101,6 +102,7 @@ impl<K: Key, V> OrderedMap<K, V> {
         ensures value { result ≡ node_with K.cmp self.old.nodes key.now }
         ensures nodes { self.new.nodes ≡ without K.cmp self.old.nodes key.now }
         ensures capacity { self.new.capacity ≡ self.old.capacity }
+        ensures was_sound { Sound K.cmp self.old }
         ensures sound { Sound K.cmp self.new }
     {
         changes::remove(&mut self.nodes, key)
@@ -155,6 +157,7 @@ impl<K: Key, V> OrderedMap<K, V> {
         ensures value { result ≡ first_of self.old.nodes }
         ensures nodes { self.new.nodes ≡ drop 1 self.old.nodes }
         ensures capacity { self.new.capacity ≡ self.old.capacity }
+        ensures was_sound { Sound K.cmp self.old }
         ensures sound { Sound K.cmp self.new }
     {
         if self.nodes.is_empty() {
@@ -170,6 +173,7 @@ impl<K: Key, V> OrderedMap<K, V> {
         ensures value { result ≡ last_of self.old.nodes }
         ensures nodes { self.new.nodes ≡ take (length self.old.nodes - 1) self.old.nodes }
         ensures capacity { self.new.capacity ≡ self.old.capacity }
+        ensures was_sound { Sound K.cmp self.old }
         ensures sound { Sound K.cmp self.new }
     {
         self.nodes.pop()
@@ -198,6 +202,7 @@ impl<K: Key + Drop, V: Drop> OrderedMap<K, V> {
     pub fn clear(&mut self)
         ensures nodes { self.new.nodes ≡ [] }
         ensures capacity { self.new.capacity ≡ self.old.capacity }
+        ensures was_sound { Sound K.cmp self.old }
         ensures sound { Sound K.cmp self.new }
     {
         self.nodes.clear();

@@ -1,6 +1,6 @@
-// The steps below the map, over its nodes.
+// The steps below the map, over nodes that their caller lends.
 
 // where a key stands
-pub(crate) mod search;
+pub mod search;
 // a node put in or taken out
-pub(crate) mod changes;
+pub mod changes;

@@ -1,4 +1,4 @@
-// Insertion and removal over a map's nodes. That the keys ascend is asked of the map, whose invariant it is.
+// Insertion and removal over nodes that the caller lends. That their keys ascend is asked of the caller, who keeps it as an invariant, as the map does.
 ghost use Rattle.std.specs.Prelude.{◌≡◌, ◌≤◌, true, IfErr, vec_len, vec_capacity};
 ghost use Rattle.answers.specs.Answer.{if_answered};
 ghost use Rattle.std.specs.List.{insert};
@@ -12,7 +12,7 @@ use crate::row::search::search;
 
 /// Puts the node where its key belongs, unless its key is there or `capacity` nodes are; the node is then handed back, and the nodes are as they
 /// were. It allocates nothing, since there is memory for `capacity` nodes.
-pub(crate) fn insert<K: Key, V>(
+pub fn insert<K: Key, V>(
     nodes: &mut Vec<Node<K, V>>,
     capacity: usize,
     node: Node<K, V>,
@@ -60,7 +60,7 @@ fn insert_at<K, V>(
 }
 
 /// Takes out the node with the key.
-pub(crate) fn remove<K: Key, V>(nodes: &mut Vec<Node<K, V>>, key: &K) -> Option<Node<K, V>>
+pub fn remove<K: Key, V>(nodes: &mut Vec<Node<K, V>>, key: &K) -> Option<Node<K, V>>
     requires ascending { ascending K.cmp nodes.old.items ≡ true }
     ensures value { result ≡ node_with K.cmp nodes.old.items key.now }
     ensures nodes { nodes.new.items ≡ without K.cmp nodes.old.items key.now }

@@ -1,4 +1,4 @@
-// The binary search over a map's nodes. It is not the library's `binary_search_by` or `partition_point`, whose steps branch: at 64, 400 and 1,024
+// The binary search over nodes that the caller lends. It is not the library's `binary_search_by` or `partition_point`, whose steps branch: at 64, 400 and 1,024
 // random keys those take 31, 44 and 52 ns, or 37, 56 and 64, for a search by price, and this one 9, 13 and 17; by order 39, 59 and 69, or 33, 47 and 57,
 // and this one 28, 35 and 43.
 ghost use Rattle.std.specs.Prelude.{◌≡◌, ◌^◌, ◌<◌, ◌≤◌, true, length, MatchResult};
@@ -18,7 +18,7 @@ const SHORT: usize = 1 << SHORT_BITS;
 const WORD_BITS: u32 = 64;
 
 // Where the key stands, or, as an error, where it would go.
-pub(crate) fn search<K: Key, V>(nodes: &[Node<K, V>], key: &K) -> Result<usize, usize>
+pub fn search<K: Key, V>(nodes: &[Node<K, V>], key: &K) -> Result<usize, usize>
     requires ascending { ascending K.cmp nodes.now ≡ true }
     ensures value { result ≡ found K.cmp nodes.now key.now }
     ensures places { MatchResult result (At K.cmp nodes.now key.now) (Gap K.cmp nodes.now key.now) }
