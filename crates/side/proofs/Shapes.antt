@@ -18,7 +18,7 @@ use Rattle.side.specs.Rank.{in_range, turned, at_price, priced}
 use Rattle.side.specs.Row.{seen, standing, InStep}
 use Rattle.side.specs.Shape.{InLots, Shaped}
 use Rattle.side.proofs.Ladder.{less_is, range_high, stands_from, stands_range, stands_some, standing_head, standing_tail}
-use Rattle.side.proofs.Prices.{turned_range}
+use Rattle.side.proofs.Prices.{turned_range, resting_priced}
 
 -- ---- by rank
 
@@ -43,6 +43,7 @@ shaped_from held spares memory orders s = record {
   sorted = sorted_seen held.nodes s.sound.ascends;
   stand = s.stand;
   lots = lots_seen held.nodes;
+  few = omega (arith, s.counted, s.few);
 }
 
 -- ---- by price
@@ -75,4 +76,5 @@ module _ (s : Side) where
     sorted = sorted_priced ls h.stand h.sorted;
     stand = standing_priced ls h.stand;
     lots = lots_priced ls h.lots;
+    few = omega (arith, resting_priced s ls, h.few);
   }

@@ -1,4 +1,8 @@
-// One side of a book.
+// One side of a book. None can exist whose levels are out of order or empty, or at which more orders rest than a book holds.
+ghost use Rattle.side.specs.Rank.{priced};
+ghost use Rattle.side.specs.Shape.{Shaped, sorted_prop};
+ghost use Rattle.std.proofs.Props.{props};
+
 use crate::levels::Levels;
 use fix::Side;
 use market::Resting;
@@ -9,6 +13,7 @@ pub struct BookSide {
     pub(crate) side: Side,
     /// by the ranks of their prices
     pub(crate) levels: Levels,
+    ghost shaped: { Shaped side (priced side levels) } by { Prim.hlevel (sorted_prop, props) },
 }
 
 /// A level as it is looked at.

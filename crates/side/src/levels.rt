@@ -93,6 +93,7 @@ impl Levels {
         requires tradable { tradable order.lots ≡ true }
         ensures levels { self.new ≡ joins Sell rank.0 order self.old }
         ensures shaped { Shaped Sell self.old }
+        ensures still { Shaped Sell self.new }
     {
         self.orders += 1;
         match self.held.get_mut(&rank) {
@@ -115,6 +116,7 @@ impl Levels {
         ensures value { result ≡ in_queue member order (queue_at rank.0 self.old) }
         ensures levels { self.new ≡ out_at rank.0 member order self.old }
         ensures shaped { Shaped Sell self.old }
+        ensures still { Shaped Sell self.new }
     {
         let level = self.held.get_mut(&rank)?;
         let taken = level.take_out(member, order)?;

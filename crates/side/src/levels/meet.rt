@@ -83,6 +83,7 @@ impl Levels {
         requires side { side ≡ other order.now.side }
         requires room { start + 2048 ≤ length list.old }
         ensures shaped { Shaped Sell self.old }
+        ensures still { Shaped Sell self.new }
         ensures meets { Meets (P.Policy.split policy.now) (order_figures order.now) (priced side self.old) (priced side self.new) list.old list.new start result }
     {
         // so that the list has room for two entries of each

@@ -7,6 +7,7 @@ use Rattle.market.specs.Put.{joins}
 use Rattle.side.specs.Levels.{levels_of}
 use Rattle.side.specs.Rank.{in_range, turned, priced}
 use Rattle.side.specs.Refusal.{joining}
+use Rattle.side.proofs.Shapes.{shaped_priced}
 use Rattle.side.proofs.Prices.{turned_twice, turned_range, resting_priced, joins_priced}
 use Rattle.side.proofs.Joins.{joining_full, joining_fits}
 use Rattle.side.proofs.book_side.BookSide.join.Goals as goal
@@ -47,3 +48,6 @@ returns c =
           ∙ sym (ap (λ (a : Answer (Unit {0})). if_answered a (joins b.side price o ls) ls) fits);
       side = refl;
     }
+
+pub invariant_of-self : goal.invariant_of-self
+invariant_of-self c = record { shaped = shaped_priced c.args.self.now.side c.join.new.self c.join.ensures.still }

@@ -19,3 +19,6 @@ returns c =
       shaped = shaped_priced b.side b.levels c.take_out.ensures.shaped;
       side = refl;
     }
+
+pub invariant_of-self : goal.invariant_of-self
+invariant_of-self c = record { shaped = shaped_priced c.args.self.now.side c.take_out.new.self c.take_out.ensures.still }

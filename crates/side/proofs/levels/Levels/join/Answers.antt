@@ -56,3 +56,18 @@ returns-in-Some-clause-shaped c = subst (Shaped Sell) c.self.view_is (shaped_fro
 
 pub returns-in-Ok-clause-shaped : goal.returns-in-Ok-clause-shaped
 returns-in-Ok-clause-shaped c = subst (Shaped Sell) c.self.view_is (shaped_from _ _ _ _ c.self.invariant)
+
+-- what is left has its shape, since it is in step
+
+pub returns-in-Some-clause-still : goal.returns-in-Some-clause-still
+returns-in-Some-clause-still c =
+    let s = c.self.inside in
+    shaped_from _ _ _ _
+    (joined_in_step s.held _ _ s.orders c.self.invariant c.args.rank c.args.order c.in-Some.level.now c.add.new.level (omega (arith, c.self.invariant.counted, ap resting c.self.view_is, c.requires.short)) c.requires.rank c.in-Some.ensures.value c.add.ensures.queue)
+
+pub returns-in-Ok-clause-still : goal.returns-in-Ok-clause-still
+returns-in-Ok-clause-still c =
+    let s = c.self.inside in
+    shaped_from _ _ _ _
+    (opened_in_step s.held _ _ s.orders c.self.invariant c.args.rank c.args.order c.insert.new.self _ _ c.open.result (omega (arith, c.self.invariant.counted, ap resting c.self.view_is, c.requires.short)) c.requires.rank
+    (is_none s.held.nodes c.args.rank c.in-None.ensures.value) c.open.ensures.queue c.insert.ensures.sound c.insert.ensures.capacity c.in-Ok.ensures.told.nodes c.open.ensures.count c.open.ensures.memory)

@@ -61,6 +61,7 @@ returns g c =
     let end : meets split (order_figures o) lp.after.left (priced c.args.side lp.self) ≡ record { left = lp.after.left; levels = priced c.args.side lp.self; entries = [] } = meets_end (order_figures o) c.args.side c.turn-limit.result c.requires.side c.turn-limit.ensures.value fits split (means g p) lp.self lp.after.left c.loop-side-test.ensures.shaped.stand c.loop-side-test.ensures.value in
     record {
       shaped = subst (Shaped Sell) c.self.view_is (shaped_from _ _ _ _ c.self.invariant);
+      still = c.loop-side-test.ensures.shaped;
       meets = record {
         levels = sym (lp.invariant.same_levels ∙ ap (λ (m : Met). m.levels) end);
         left = sym (lp.invariant.same_left ∙ ap (λ (m : Met). m.left) end);

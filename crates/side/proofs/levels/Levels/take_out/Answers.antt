@@ -1,4 +1,4 @@
-use Rattle.std.proofs.Common.{length, is_some, None, Some, sym, ap, ◌∙◌, arith, subst}
+use Rattle.std.proofs.Common.{◌-◌, length, is_some, None, Some, sym, ap, ◌∙◌, arith, subst}
 use Rattle.ordered.specs.Order.{by_price}
 use Rattle.ordered.specs.Row.{with_value}
 use Rattle.ordered.proofs.Lookups.{length_without}
@@ -119,3 +119,38 @@ returns-then-len-eq0-clause-shaped c = subst (Shaped Sell) c.self.view_is (shape
 
 pub returns-else-len-eq0-clause-shaped : goal.returns-else-len-eq0-clause-shaped
 returns-else-len-eq0-clause-shaped c = subst (Shaped Sell) c.self.view_is (shaped_from _ _ _ _ c.self.invariant)
+
+-- what is left has its shape, since it is in step
+
+pub returns-in_err-level-clause-still : goal.returns-in_err-level-clause-still
+returns-in_err-level-clause-still c = shaped_from _ _ _ _ c.self.invariant
+
+pub returns-in_err-taken-clause-still : goal.returns-in_err-taken-clause-still
+returns-in_err-taken-clause-still c =
+    let s = c.self.inside in
+    let v = c.in_ok-level.level.now in
+    let w = c.take_out.new.self in
+    let there = queue_some c.args.rank v s.held.nodes c.self.invariant.stand c.in_ok-level.ensures.value in
+    shaped_from _ _ _ _
+    (left_in_step s.held _ _ s.orders c.self.invariant c.args.member c.args.order c.args.rank v w c.in_ok-level.ensures.value c.take_out.ensures.queue s.orders None c.in_err-taken.ensures.value (omega arith)
+    (omega (arith, there, ap length c.take_out.ensures.queue, queue_out c.args.member c.args.order (queue_of v), ap taken_count c.in_err-taken.ensures.value)))
+
+pub returns-then-len-eq0-clause-still : goal.returns-then-len-eq0-clause-still
+returns-then-len-eq0-clause-still c =
+    let s = c.self.inside in
+    let v = c.in_ok-level.level.now in
+    let w = c.take_out.new.self in
+    shaped_from _ _ _ _
+    (gone_in_step s.held _ _ s.orders c.self.invariant c.args.member c.args.order c.args.rank v w c.in_ok-level.ensures.value c.take_out.ensures.queue c.remove.new.self _ _ (s.orders - 1) (Some c.in_ok-taken.taken) c.in_ok-taken.ensures.value
+    (omega (arith, counted_out s.held _ _ s.orders c.self.invariant c.args.member c.args.order c.args.rank v w c.in_ok-level.ensures.value c.take_out.ensures.queue (Some c.in_ok-taken.taken) c.in_ok-taken.ensures.value))
+    (omega (arith, c.len.ensures.value, c.if-len-eq0.true)) c.remove.ensures.sound c.remove.ensures.capacity c.remove.ensures.nodes c.close.ensures.count c.close.ensures.memory)
+
+pub returns-else-len-eq0-clause-still : goal.returns-else-len-eq0-clause-still
+returns-else-len-eq0-clause-still c =
+    let s = c.self.inside in
+    let v = c.in_ok-level.level.now in
+    let w = c.take_out.new.self in
+    shaped_from _ _ _ _
+    (left_in_step s.held _ _ s.orders c.self.invariant c.args.member c.args.order c.args.rank v w c.in_ok-level.ensures.value c.take_out.ensures.queue (s.orders - 1) (Some c.in_ok-taken.taken) c.in_ok-taken.ensures.value
+    (omega (arith, counted_out s.held _ _ s.orders c.self.invariant c.args.member c.args.order c.args.rank v w c.in_ok-level.ensures.value c.take_out.ensures.queue (Some c.in_ok-taken.taken) c.in_ok-taken.ensures.value))
+    (omega (arith, c.len.ensures.value, c.if-len-eq0.false)))
