@@ -1,6 +1,5 @@
 -- Bytes are all zero exactly where the number that they spell is 0, and where each word of them is.
-use Rattle.std.proofs.Common.{◌≡◌, ℕ, zero, suc, ◌+◌, ◌*◌, Bool, true, ◌&&◌, eqb, List, [], ◌∷◌, ◌++◌, length, get_or, drop, replicate, Decides, sym, refl, ap, ◌∙◌, ⊎_elim, arith}
-use Rattle.std.specs.List.{list_all}
+use Rattle.std.proofs.Common.{◌≡◌, ℕ, zero, suc, ◌+◌, ◌*◌, Bool, true, eqb, List, [], ◌∷◌, ◌++◌, length, get_or, drop, replicate, fold, Decides, sym, refl, ap, ◌∙◌, ⊎_elim, arith}
 use lib.Bits.{bit_or, or_add_and, and_le_l, and_le_r}
 use lib.Lanes.{chunk}
 use Rattle.std.proofs.lemmas.Simd.{chunk-drop}
@@ -27,11 +26,6 @@ decided t xs f g =
     ⊎_elim (λ yes'. yes' ∙ sym (number_zeros xs (f yes')))
     (λ no'. ⊎_elim (λ z. g (zeros_number xs z) ∙ sym z) (λ nz. no' ∙ sym nz) (cases_Bool (all_zero xs)))
     (cases_Bool t)
-
-pub all_zero_each : (xs : List ℕ) → all_zero xs ≡ list_all (λ b. eqb b 0) xs
-unfolding all_zero
-all_zero_each [] = refl
-all_zero_each (x ∷ xs) = ap (λ b. eqb x 0 && b) (all_zero_each xs)
 
 pub zeros_replicate : (n : ℕ) → all_zero (replicate n 0) ≡ true
 unfolding all_zero
@@ -67,6 +61,21 @@ or_zero a b e = (omega (arith, or_add_and a b, and_le_r a b), omega (arith, or_a
 
 zero_or : (a b : ℕ) → a ≡ 0 → b ≡ 0 → bit_or a b ≡ 0
 zero_or a b e f = omega (arith, or_add_and a b)
+
+pub or_zeros : (n : ℕ) (bs : List ℕ) → fold bit_or n bs ≡ 0 → (n ≡ 0) × (all_zero bs ≡ true)
+unfolding all_zero
+or_zeros n [] e = (e, refl)
+or_zeros n (b ∷ bs) e =
+    let rest = or_zeros (bit_or n b) bs e in
+    let p = or_zero n b rest.0 in
+    (p.0, and_from (eqb b 0) (all_zero bs) (eq-eqb b 0 p.1) rest.1)
+
+pub zeros_or : (n : ℕ) (bs : List ℕ) → n ≡ 0 → all_zero bs ≡ true → fold bit_or n bs ≡ 0
+unfolding all_zero
+zeros_or n [] e h = e
+zeros_or n (b ∷ bs) e h =
+    let p = and_parts (eqb b 0) (all_zero bs) h in
+    zeros_or (bit_or n b) bs (zero_or n b e (eqb-true b 0 p.0)) p.1
 
 number-++-zero : (xs ys : List ℕ) → number (xs ++ ys) ≡ 0 → (number xs ≡ 0) × (number ys ≡ 0)
 unfolding number

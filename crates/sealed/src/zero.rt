@@ -11,5 +11,5 @@ pub fn is_zero(bytes: &[u8]) -> bool
     for w in words {
         any |= u64::from_le_bytes(*w);
     }
-    any == 0 && rest.iter().all(|b| *b == 0)
+    any == 0 && rest.iter().fold(0u8, |any, b| any | *b) == 0
 }

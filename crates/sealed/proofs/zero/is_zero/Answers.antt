@@ -1,12 +1,13 @@
-use Rattle.std.proofs.Common.{◌≡◌, ℕ, ◌*◌, ◌/◌, ◌<◌, eqb, List, [], length, get_or, drop, sym, ap, ◌∙◌, arith, eq-eqb, eqb-true, rules, tests}
+use Rattle.std.proofs.Common.{◌≡◌, ℕ, ◌*◌, ◌/◌, ◌<◌, eqb, List, [], length, get_or, drop, sym, ap, ◌∙◌, arith, eq-eqb, eqb-true, fold, refl, rules}
+use lib.Bits.{bit_or}
 use lib.Lanes.{chunk}
 use Rattle.std.proofs.lemmas.Simd.{length-chunk}
 use Rattle.std.proofs.lemmas.Iterator.{YieldsList-from_slice}
-use Rattle.std.proofs.lemmas.Iterator.Search.{all_from_yields_List}
+use Rattle.std.proofs.lemmas.Iterator.Consumers.{fold_from_yields_List}
 use Rattle.crc32c.proofs.Chunk.{getD_chunked}
 use Rattle.sealed.specs.Number.{number}
 use Rattle.sealed.specs.Zero.{all_zero}
-use Rattle.sealed.proofs.Zeros.{left_word, number_eight, decided, zeros_number, number_zeros, zeros_decides, all_zero_each}
+use Rattle.sealed.proofs.Zeros.{left_word, number_eight, decided, zeros_number, number_zeros, zeros_decides, or_zeros, zeros_or}
 use Rattle.sealed.proofs.zero.is_zero.Goals as goal
 
 pub loop-w-preserved : goal.loop-w-preserved
@@ -30,12 +31,12 @@ returns-then-any-eq0 c =
     let xs : List ℕ = c.args.bytes.now in
     let rest : List ℕ = c.as_chunks.result.1.now in
     let e : number (drop (c.loop-w.w-index * 8) xs) ≡ number rest = rest_is xs rest c.loop-w.w-index (omega arith) c.as_chunks.ensures.back in
-    let each : c.all.result ≡ all_zero rest = all_from_yields_List (λ b. eqb b 0) _ _ c.all.result c.all.ensures.ran (YieldsList-from_slice rest cc) (λ x b q k. search (rules, tests)) ∙ sym (all_zero_each rest) in
-    let is : c.all.result ≡ all_zero xs =
-    decided c.all.result xs
-    (λ t. c.loop-w.invariant.0 c.if-any-eq0.true (e ∙ zeros_number rest (sym each ∙ t)))
-    (λ z. each ∙ number_zeros rest (sym e ∙ (c.loop-w.invariant.1 z).1)) in
-    record { value = is; told = zeros_decides c.all.result xs is }
+    let folded : c.fold.result ≡ fold bit_or 0 rest = fold_from_yields_List _ bit_or 0 _ c.fold.ensures.ran (YieldsList-from_slice rest cc) (λ a x b q k. search rules) in
+    let is : eqb c.fold.result 0 ≡ all_zero xs =
+    decided (eqb c.fold.result 0) xs
+    (λ t. c.loop-w.invariant.0 c.if-any-eq0.true (e ∙ zeros_number rest (or_zeros 0 rest (sym folded ∙ eqb-true c.fold.result 0 t)).1))
+    (λ z. eq-eqb c.fold.result 0 (folded ∙ zeros_or 0 rest refl (number_zeros rest (sym e ∙ (c.loop-w.invariant.1 z).1)))) in
+    record { value = is; told = zeros_decides (eqb c.fold.result 0) xs is }
 
 pub returns-else-any-eq0 : goal.returns-else-any-eq0
 returns-else-any-eq0 c =
