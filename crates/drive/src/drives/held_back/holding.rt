@@ -34,8 +34,9 @@ impl HeldBack {
         ensures out { PutOut self.old self.new }
     {
         // read where it lies: a block that is popped first is copied once more
-        let last = &self.held[self.held.len() - 1];
-        copy_in(self.memory.as_mut_slice(), last.number, &last.bytes);
+        let last = self.held.len() - 1;
+        let number = self.held[last].number;
+        copy_in(self.memory.as_mut_slice(), number, &self.held[last].bytes);
         self.held.pop();
     }
 
