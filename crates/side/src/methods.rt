@@ -132,9 +132,10 @@ impl BookSide {
         ensures queue { option_map (λ (l : LevelAt). l.queue.now) result ≡ option_map (λ (l : PriceLevel). l.queue) (slice_get (levels_of self.now) place) }
         ensures lots { option_map (λ (l : LevelAt). l.lots) result ≡ option_map (λ (l : PriceLevel). total (lots_of l.queue)) (slice_get (levels_of self.now) place) }
     {
-        let node = self.levels.nodes().get(place)?;
+        let nodes = self.levels.nodes();
+        let node = nodes.get(place)?;
         Some(LevelAt {
-            price: turn(self.side, node.key.0),
+            price: turn(self.side, nodes[place].key.0),
             queue: node.value.queue(),
             lots: node.value.lots(),
         })
